@@ -1,0 +1,5 @@
+pub mod Access
+pub mod Fault
+pub mod Meaning
+pub mod Memory
+pub mod Refusal
