@@ -1,5 +1,6 @@
 pub mod Access
 pub mod Fault
+pub mod Laws
 pub mod Meaning
 pub mod Memory
 pub mod Refusal

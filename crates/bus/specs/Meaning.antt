@@ -1,25 +1,32 @@
 -- What a bus means: its contents, its verdicts, and what an access answers and leaves.
-use Prim.Native.Nat.{ℕ, _≤_, _<_}
-use mathlib.Core.Bool.{true, cond}
-use mathlib.Core.Path.{_≡_}
-use denote.Ref.{RefT, now}
+use Prim.Native.Nat.{ℕ}
+use mathlib.Core.Bool.{Bool, true, false, cond}
 use Rattle.std.specs.declared.option.Option.{Option}
 use Rattle.std.specs.declared.option.Option.the-variants.{Some, None}
 use Rattle.std.specs.declared.result.Result.{Result}
 use Rattle.std.specs.declared.result.Result.the-variants.{Ok, Err}
-use Rattle.bus.specs.Access.{size, is-write, bytes-of, misaligned}
-use Rattle.bus.specs.Fault.{raised}
+use Rattle.bus.specs.Access.{is-write, bytes-of}
+use Rattle.bus.specs.Fault.{handed-up}
 use Rattle.bus.specs.Memory.{Bytes, load, store}
 use Rattle.bus.specs.declared.access.Access.{Access}
 use Rattle.bus.specs.declared.access.Right.{Right}
 use Rattle.bus.specs.declared.access.Use.the-variants.{Fetch, Read, Write}
 use Rattle.bus.specs.declared.access.Width.{Width}
-use Rattle.bus.specs.declared.fault.Cause.the-variants.{Misaligned}
 use Rattle.bus.specs.declared.fault.Fault.{Fault}
 
 -- None: allowed
 abbrev pub Verdict : Type 0
 Verdict = Option Fault
+
+-- refused with f where the test holds, and else told what comes next
+abbrev pub refused-if : Bool → Fault → Verdict → Verdict
+refused-if true f next = Some f
+refused-if false f next = next
+
+-- a verdict of the part below, as the part above hands it up
+abbrev pub lifted : Verdict → Verdict
+lifted (Some f) = Some (handed-up f)
+lifted None = None
 
 -- what the three uses ask
 abbrev pub fetching : Right → ℕ → Access
@@ -48,20 +55,3 @@ replied m a = cond (is-write (a .usage)) 0 (load (bytes-of a) m (a .address))
 -- an allowed write stores the value's bytes; a fetch or a read leaves all
 abbrev pub written : Bytes → Access → ℕ → Bytes
 written m a v = cond (is-write (a .usage)) (store (bytes-of a) m (a .address) v) m
-
--- what every kind of bus keeps
-pub record Laws {S : Type 0} (kind : ℕ) (bytes : S → Bytes) (verdict : S → Access → Verdict) : Type 0 where
-  -- a byte is below 256
-  pub byte : (s : S) (x : ℕ) → bytes s x < 256
-  -- the part asked refuses a misaligned access itself, before all else
-  pub alignment : (s : S) (a : Access) → misaligned a ≡ true → verdict s a ≡ Some (raised Misaligned a kind)
-  -- a fault bears the address of the access, and at most 255 hops
-  pub fault : (s : S) (a : Access) (f : Fault) → verdict s a ≡ Some f → (f .address ≡ a .address) × (f .hops ≤ 255)
-
--- they hold of a bus that is lent as they hold of the bus
-pub lent-laws : {S : Type 0} {kind : ℕ} {bytes : S → Bytes} {verdict : S → Access → Verdict} → Laws kind bytes verdict → Laws {S = RefT S} kind (λ s. bytes (now s)) (λ s. verdict (now s))
-lent-laws laws = record {
-  byte = λ s. laws .byte (now s);
-  alignment = λ s. laws .alignment (now s);
-  fault = λ s. laws .fault (now s);
-}

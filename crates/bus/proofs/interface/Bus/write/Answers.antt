@@ -1,8 +1,9 @@
 use mathlib.Core.Path.{ap, _∙_}
 use borrow.Author.Needs.{needs}
 use Rattle.bus.specs.Access.{size}
+use Rattle.bus.specs.Meaning.{Verdict, after}
 use Rattle.bus.specs.Memory.{Bytes, load, store}
-use Rattle.bus.proofs.Answer.{after-value}
+use Rattle.bus.proofs.Answer.{answer-allowed}
 use Rattle.bus.proofs.Memory.{store-outside, load-store}
 use Rattle.bus.proofs.interface.Bus.write.Needs as need
 
@@ -15,7 +16,7 @@ returns g c =
     let x = c .args .address in
     let v = c .args .value in
     let kept = c .in-Continue-access .ensures tt in
-    let stored = kept .contents ∙ after-value _ _ _ (store n m x v) m (kept .value) in
+    let stored = kept .contents ∙ ap (λ (w : Verdict). after w (store n m x v) m) (answer-allowed _ _ _ (kept .value)) in
     record {
       value = search needs;
       contents = search needs;
