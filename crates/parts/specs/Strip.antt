@@ -1,10 +1,10 @@
 -- A strip: the host's bytes at a base, the first of them read-only.
-use Prim.Native.Nat.{ℕ, _+_, _-_, _%_, _<_}
+use Prim.Native.Nat.{ℕ, _+_, _-_, _%_, _^_, _<_}
 use mathlib.Core.Bool.{Bool, true, false, not, cond, _&&_}
 use mathlib.Core.List.{List}
 use mathlib.Core.Path.{_≡_}
 use native.Mathlib.Omega.{arith}
-use lib.Dec.{leb, ltb}
+use lib.Dec.{eqb, leb, ltb}
 use lib.ListN.{length, getD}
 use Rattle.std.specs.declared.option.Option.the-variants.{None}
 use Rattle.bus.specs.Access.{is-write, bytes-of, misaligned}
@@ -44,6 +44,10 @@ verdict-at base n k a =
 
 abbrev pub strip-verdict : Strip → Access → Verdict
 strip-verdict s = verdict-at (s .base) (length (s .bytes .now)) (s .«read_only»)
+
+-- what a strip can be built of: n bytes at base, the first k read-only
+abbrev pub strip-fits : ℕ → ℕ → ℕ → Bool
+strip-fits n base k = leb n 65536 && leb (base + n) (2 ^ 32) && leb k n && eqb (base % 4) 0
 
 cond-byte : (b : Bool) (n : ℕ) → cond b (n % 256) 0 < 256
 cond-byte true n = omega arith

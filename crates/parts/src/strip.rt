@@ -4,24 +4,51 @@ ghost use base.Fml.{GName};
 ghost use Prim.Native.Nat.{ℕ, _+_, _-_, _≤_};
 ghost use denote.Ref.{name, now as held};
 ghost use lib.ListN.{length};
+ghost use Rattle.std.specs.Results.{isOk, Cases};
+ghost use Rattle.bus.specs.declared.refusal.Refusal.the-variants.{BadSetting};
 ghost use Rattle.bus.specs.Access.{size};
 ghost use Rattle.bus.specs.Meaning.{answer};
 ghost use Rattle.bus.specs.Memory.{load};
-ghost use Rattle.parts.specs.Strip.{listed, inside, strip-bytes, strip-verdict, strip-laws};
+ghost use Rattle.parts.specs.Strip.{listed, inside, strip-fits, strip-bytes, strip-verdict, strip-laws};
 use crate::little_endian;
 use bus::Access;
 use bus::Bus;
 use bus::Cause;
 use bus::Fault;
+use bus::Refusal;
 use bus::Width;
 
 const STRIP_KIND: u8 = 1;
+
+const LONGEST: usize = 65536;
+
+// how many addresses there are
+const ADDRESSES: u64 = 1 << 32;
 
 #[derive(Drop)]
 pub struct Strip<'a> {
     bytes: &'a mut [u8],
     base: u32,
     read_only: u32,
+}
+
+impl<'a> Strip<'a> {
+    // Lends `bytes` at `base`, the first `read_only` of them not to be written.
+    pub fn new(bytes: &'a mut [u8], base: u32, read_only: u32) -> Result<Strip<'a>, Refusal>
+        ensures test { λ r. ⌜ isOk r ≡ strip-fits (length (now (bytes .entry))) base «read_only» ⌝ }
+        ensures cases { λ r. ⌜ Cases r (λ s. s ≡ record { bytes = bytes .entry; base = base; «read_only» = «read_only» }) (λ e. e ≡ BadSetting) ⌝ }
+    {
+        let length = bytes.len();
+        let end = u64::from(base) + length as u64;
+        if length > LONGEST || end > ADDRESSES || read_only as usize > length || base % 4 != 0 {
+            return Err(Refusal::BadSetting);
+        }
+        Ok(Strip {
+            bytes,
+            base,
+            read_only,
+        })
+    }
 }
 
 impl Strip<'_> {
