@@ -1,11 +1,13 @@
 -- Laws of loading and storing, over the number of bytes.
-use Prim.Native.Nat.{ℕ, zero, suc, _+_, _*_, _/_, _%_, _^_, _<_, _≤_}
-use mathlib.Core.Path.{_≡_, refl, ap, _∙_}
-use mathlib.Core.Bool.{false}
-use native.Mathlib.Nat.{pow-suc, pow-succ', one-le-pow}
+use Prim.Native.Nat.{ℕ, zero, suc, _+_, _-_, _*_, _/_, _%_, _^_, _<_, _≤_}
+use mathlib.Core.Path.{_≡_, sym, ap, _∙_}
+use mathlib.Core.Bool.{true, false, cond}
+use mathlib.Core.Logic.{_⊎_, inl, inr}
+use native.Mathlib.Nat.{add-zero, div-one, div-div-eq-div-mul, pow-zero, pow-suc, pow-succ', one-le-pow}
 use native.Mathlib.Omega.{arith}
 use lib.Arith.{mod-mul}
 use lib.Dec.{lit<}
+use Rattle.std.proofs.shelf.Tests.{cases-order}
 use Rattle.std.proofs.shelf.Ways.{tells}
 use Rattle.bus.specs.Access.{within}
 use Rattle.bus.specs.Memory.{Bytes, with-byte, load, store}
@@ -16,22 +18,43 @@ unfolding load
 load-below m byte zero x = omega arith
 load-below m byte (suc n) x = omega (arith, byte x, load-below m byte n (x + 1), pow-succ' 256 n)
 
--- a store leaves each byte that it does not cover
-pub store-outside : (n : ℕ) (m : Bytes) (x v k : ℕ) → within x n k ≡ false → store n m x v k ≡ m k
-unfolding store
-store-outside zero m x v k out = refl
-store-outside (suc n) m x v k out =
-    let rest : within (x + 1) n k ≡ false = grind (arith, tells) in
-    let other : with-byte m x (v % 256) k ≡ m k = grind (arith, tells) in
-    store-outside n (with-byte m x (v % 256)) (x + 1) (v / 256) k rest ∙ other
+div-next : (v i : ℕ) → v / 256 / 256 ^ i ≡ v / 256 ^ suc i
+div-next v i = div-div-eq-div-mul v 256 (256 ^ i) ∙ ap (λ k. v / k) (sym (pow-succ' 256 i))
 
--- what is loaded where it was stored is the value, as far as it fits n bytes
-pub load-store : (n : ℕ) (m : Bytes) (x v : ℕ) → load n (store n m x v) x ≡ v % 256 ^ n
-unfolding load store
-load-store zero m x v = omega arith
-load-store (suc n) m x v =
-    let m′ : Bytes = with-byte m x (v % 256) in
-    let first : store n m′ (x + 1) (v / 256) x ≡ v % 256 = store-outside n m′ (x + 1) (v / 256) x (grind (arith, tells)) ∙ grind (arith, tells) in
-    let rest = load-store n m′ (x + 1) (v / 256) in
+-- a store puts the i-th byte of v at x + i, and leaves every other byte
+pub store-byte : (n : ℕ) (m : Bytes) (x v y : ℕ) → store n m x v y ≡ cond (within x n y) (v / 256 ^ (y - x) % 256) (m y)
+unfolding store
+store-byte zero m x v y = let outside : within x 0 y ≡ false = grind (arith, tells) in rw outside
+store-byte (suc n) m x v y = store-byte n (with-byte m x (v % 256)) (x + 1) (v / 256) y ∙ next (cases-order y x)
+  where
+    next : (y ≡ x) ⊎ ((y < x) ⊎ (x < y)) → cond (within (x + 1) n y) (v / 256 / 256 ^ (y - (x + 1)) % 256) (with-byte m x (v % 256) y) ≡ cond (within x (suc n) y) (v / 256 ^ (y - x) % 256) (m y)
+    next (inl here) =
+        let none : y - x ≡ 0 = omega arith in
+        let lowest : v / 256 ^ (y - x) % 256 ≡ v % 256 = rw (none, pow-zero, div-one) in
+        grind (arith, tells)
+    next (inr (inl below)) = grind (arith, tells)
+    next (inr (inr above)) =
+        let one-more : suc (y - (x + 1)) ≡ y - x = omega arith in
+        let same : v / 256 / 256 ^ (y - (x + 1)) ≡ v / 256 ^ (y - x) = div-next v (y - (x + 1)) ∙ ap (λ k. v / 256 ^ k) one-more in
+        grind (arith, tells)
+
+-- a store leaves each byte that it does not cover
+pub store-outside : (n : ℕ) (m : Bytes) (x v y : ℕ) → within x n y ≡ false → store n m x v y ≡ m y
+store-outside n m x v y outside = rw (store-byte n m x v y, outside)
+
+-- n bytes that are the bytes of v make v, as far as it fits
+pub load-bytes : (n : ℕ) (m : Bytes) (x v : ℕ) → ((i : ℕ) → i < n → m (x + i) ≡ v / 256 ^ i % 256) → load n m x ≡ v % 256 ^ n
+unfolding load
+load-bytes zero m x v bytes = omega arith
+load-bytes (suc n) m x v bytes =
+    let first : m x ≡ v % 256 = ap m (sym (add-zero x)) ∙ bytes 0 (omega arith) ∙ rw (pow-zero, div-one) in
+    let rest = load-bytes n m (x + 1) (v / 256) (λ i below. ap m (omega arith) ∙ bytes (suc i) (omega arith) ∙ ap (λ k. k % 256) (sym (div-next v i))) in
     let digits = ap (λ k. v % k) (pow-suc 256 n) ∙ mod-mul v (one-le-pow n 256 (lit< tt)) (lit< tt) in
     omega arith
+
+-- what is loaded where it was stored is the value, as far as it fits
+pub load-store : (n : ℕ) (m : Bytes) (x v : ℕ) → load n (store n m x v) x ≡ v % 256 ^ n
+load-store n m x v = load-bytes n (store n m x v) x v (λ i below.
+    let covered : within x n (x + i) ≡ true = grind (arith, tells) in
+    let nth : x + i - x ≡ i = omega arith in
+    rw (store-byte n m x v (x + i), covered, nth))

@@ -1,3 +1,4 @@
 pub mod Listed
+pub mod Panels
 pub mod Placed
 pub mod Strips

@@ -1,1 +1,2 @@
+pub mod Panel
 pub mod Strip
