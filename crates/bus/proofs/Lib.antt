@@ -1,2 +1,3 @@
+pub mod Alignment
 pub mod Answer
 pub mod Memory

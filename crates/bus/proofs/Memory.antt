@@ -1,7 +1,7 @@
 -- Laws of loading and storing, over the number of bytes.
 use Prim.Native.Nat.{ℕ, zero, suc, _+_, _-_, _*_, _/_, _%_, _^_, _<_, _≤_}
-use mathlib.Core.Path.{_≡_, sym, ap, _∙_}
-use mathlib.Core.Bool.{true, false, cond}
+use mathlib.Core.Path.{_≡_, refl, sym, ap, _∙_, fun-ext}
+use mathlib.Core.Bool.{Bool, true, false, cond}
 use mathlib.Core.Logic.{_⊎_, inl, inr}
 use native.Mathlib.Nat.{add-zero, div-one, div-div-eq-div-mul, pow-zero, pow-suc, pow-succ', one-le-pow}
 use native.Mathlib.Omega.{arith}
@@ -58,3 +58,20 @@ load-store n m x v = load-bytes n (store n m x v) x v (λ i below.
     let covered : within x n (x + i) ≡ true = grind (arith, tells) in
     let nth : x + i - x ≡ i = omega arith in
     rw (store-byte n m x v (x + i), covered, nth))
+
+-- memories that agree where a load looks give it the same
+pub load-agree : (n : ℕ) (m m′ : Bytes) (x : ℕ) → ((y : ℕ) → within x n y ≡ true → m y ≡ m′ y) → load n m x ≡ load n m′ x
+unfolding load
+load-agree zero m m′ x agree = refl
+load-agree (suc n) m m′ x agree =
+    let first = agree x (grind (arith, tells)) in
+    let rest = load-agree n m m′ (x + 1) (λ y inside. agree y (grind (arith, tells))) in
+    omega arith
+
+-- a store is the memory that has the bytes of v where it covers, and m elsewhere
+pub store-unique : (n : ℕ) (m m′ : Bytes) (x v : ℕ) → ((y : ℕ) → within x n y ≡ true → m′ y ≡ v / 256 ^ (y - x) % 256) → ((y : ℕ) → within x n y ≡ false → m′ y ≡ m y) → m′ ≡ store n m x v
+store-unique n m m′ x v covered outside = fun-ext (λ y. go y (within x n y) refl ∙ sym (store-byte n m x v y))
+  where
+    go : (y : ℕ) (b : Bool) → within x n y ≡ b → m′ y ≡ cond b (v / 256 ^ (y - x) % 256) (m y)
+    go y true e = covered y e
+    go y false e = outside y e

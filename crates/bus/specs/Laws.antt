@@ -1,6 +1,6 @@
 -- What every kind of bus keeps.
-use Prim.Native.Nat.{ℕ, _≤_, _<_}
-use mathlib.Core.Bool.{Bool, true, false}
+use Prim.Native.Nat.{ℕ, _%_, _≤_, _<_}
+use mathlib.Core.Bool.{Bool, true, false, cond}
 use mathlib.Core.Path.{_≡_, refl}
 use native.Mathlib.Omega.{arith}
 use denote.Ref.{RefT, now}
@@ -25,6 +25,11 @@ pub record Laws {S : Type 0} (kind : ℕ) (bytes : S → Bytes) (verdict : S →
   -- the part asked refuses a misaligned access itself, before all else
   pub alignment : (s : S) (a : Access) → misaligned a ≡ true → verdict s a ≡ Some (raised Misaligned a kind)
   pub fault : (s : S) (a : Access) → Bears a (verdict s a)
+
+-- a byte where something lies, and else 0, is below 256
+pub byte-or-none : (b : Bool) (n : ℕ) → cond b (n % 256) 0 < 256
+byte-or-none true n = omega arith
+byte-or-none false n = omega arith
 
 -- the laws of a bus are those of the bus when it is lent
 pub lent-laws : {S : Type 0} {kind : ℕ} {bytes : S → Bytes} {verdict : S → Access → Verdict} → Laws kind bytes verdict → Laws {S = RefT S} kind (λ s. bytes (now s)) (λ s. verdict (now s))

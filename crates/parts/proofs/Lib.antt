@@ -1,4 +1,6 @@
+pub mod Hops
 pub mod Listed
 pub mod Panels
 pub mod Placed
+pub mod Splits
 pub mod Strips

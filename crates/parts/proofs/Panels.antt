@@ -1,8 +1,8 @@
 -- What an allowed access to a panel answers and leaves.
 use Prim.Native.Nat.{ℕ, _+_, _-_, _/_, _%_, _^_, _<_, _≤_}
-use mathlib.Core.Bool.{Bool, true, false, not, cond}
+use mathlib.Core.Bool.{true, false, not}
 use mathlib.Core.Logic.{_⊎_, inl, inr}
-use mathlib.Core.Path.{_≡_, refl, sym, ap, _∙_, fun-ext}
+use mathlib.Core.Path.{_≡_, sym, ap, _∙_}
 use native.Mathlib.Omega.{arith}
 use lib.Dec.{eqb, leb, ltb}
 use lib.ListN.{length, getD, set}
@@ -18,7 +18,7 @@ use Rattle.bus.specs.Memory.{Bytes, load, store}
 use Rattle.bus.specs.declared.access.Access.{Access}
 use Rattle.bus.specs.declared.fault.Cause.the-variants.{Unmapped, WrongWidth}
 use Rattle.bus.proofs.Answer.{answer-allowed, answer-value, refused-if-none, read-answer, write-answer, write-leaves}
-use Rattle.bus.proofs.Memory.{store-byte, load-bytes}
+use Rattle.bus.proofs.Memory.{store-unique, load-bytes}
 use Rattle.parts.specs.Panel.{on-panel, panel-bytes, panel-verdict}
 use Rattle.parts.specs.declared.panel.Panel.{Panel}
 
@@ -38,25 +38,27 @@ module _ (p : Panel) (x : ℕ) (on : x / 64 ≡ p .base / 64) (aligned : x % 4 �
   with-word v = record { words = set (p .words) (x % 64 / 4) v; base = p .base }
 
   store-panel : (v : ℕ) → x % 64 / 4 < length (p .words) → panel-bytes (with-word v) ≡ store 4 (panel-bytes p) x v
-  store-panel v short = fun-ext (λ y. go y (within x 4 y) refl ∙ sym (store-byte 4 (panel-bytes p) x v y))
+  store-panel v short = store-unique 4 (panel-bytes p) (panel-bytes (with-word v)) x v covered outside
     where
-      go : (y : ℕ) (b : Bool) → within x 4 y ≡ b → panel-bytes (with-word v) y ≡ cond b (v / 256 ^ (y - x) % 256) (panel-bytes p y)
-      go y true covered =
-          let low : x ≤ y = leb-true x y (and-parts (leb x y) (ltb y (x + 4)) covered .0) in
-          let high : y < x + 4 = ltb-true y (x + 4) (and-parts (leb x y) (ltb y (x + 4)) covered .1) in
+      covered : (y : ℕ) → within x 4 y ≡ true → panel-bytes (with-word v) y ≡ v / 256 ^ (y - x) % 256
+      covered y inside =
+          let low : x ≤ y = leb-true x y (and-parts (leb x y) (ltb y (x + 4)) inside .0) in
+          let high : y < x + 4 = ltb-true y (x + 4) (and-parts (leb x y) (ltb y (x + 4)) inside .1) in
           let block : eqb (y / 64) (p .base / 64) ≡ true = grind (arith, tells) in
           let word : y % 64 / 4 ≡ x % 64 / 4 = omega arith in
           let byte : y % 4 ≡ y - x = omega arith in
           rw (block, word, byte, getD-set-same)
-      go y false outside = other (cases-eq (y / 64) (p .base / 64)) (cases-eq (y % 64 / 4) (x % 64 / 4))
-        where
-          other : (y / 64 ≡ p .base / 64) ⊎ (y / 64 ≡ p .base / 64 → ⊥) → (y % 64 / 4 ≡ x % 64 / 4) ⊎ (y % 64 / 4 ≡ x % 64 / 4 → ⊥) → panel-bytes (with-word v) y ≡ panel-bytes p y
-          other (inr elsewhere) word = rw (ne-eqb (y / 64) (p .base / 64) elsewhere)
-          other (inl block) (inr word) = rw (getD-set-other)
-          other (inl block) (inl word) =
-              let low : x ≤ y = omega arith in
-              let high : y < x + 4 = omega arith in
-              absurd (both-ways (within x 4 y) outside (grind (arith, tells)))
+
+      other : (y : ℕ) → within x 4 y ≡ false → (y / 64 ≡ p .base / 64) ⊎ (y / 64 ≡ p .base / 64 → ⊥) → (y % 64 / 4 ≡ x % 64 / 4) ⊎ (y % 64 / 4 ≡ x % 64 / 4 → ⊥) → panel-bytes (with-word v) y ≡ panel-bytes p y
+      other y away (inr elsewhere) word = rw (ne-eqb (y / 64) (p .base / 64) elsewhere)
+      other y away (inl block) (inr word) = rw getD-set-other
+      other y away (inl block) (inl word) =
+          let low : x ≤ y = omega arith in
+          let high : y < x + 4 = omega arith in
+          absurd (both-ways (within x 4 y) away (grind (arith, tells)))
+
+      outside : (y : ℕ) → within x 4 y ≡ false → panel-bytes (with-word v) y ≡ panel-bytes p y
+      outside y away = other y away (cases-eq (y / 64) (p .base / 64)) (cases-eq (y % 64 / 4) (x % 64 / 4))
 
 module _ (p : Panel) (a : Access) (at : ℕ) (begins : Ok at ≡ answer (panel-verdict p a) (a .address % 64 / 4)) where
   allowed : panel-verdict p a ≡ None

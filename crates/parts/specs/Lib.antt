@@ -1,2 +1,4 @@
+pub mod Hop
 pub mod Panel
+pub mod Split
 pub mod Strip

@@ -1,8 +1,7 @@
 -- A panel: sixteen words in a block of 64 bytes.
-use Prim.Native.Nat.{ℕ, _*_, _/_, _%_, _^_, _<_}
+use Prim.Native.Nat.{ℕ, _*_, _/_, _%_, _^_}
 use mathlib.Core.Bool.{Bool, true, false, not, cond}
 use mathlib.Core.Path.{_≡_}
-use native.Mathlib.Omega.{arith}
 use lib.Dec.{eqb}
 use lib.ListN.{getD, replicate}
 use Rattle.std.specs.declared.option.Option.the-variants.{None}
@@ -10,7 +9,7 @@ use Rattle.std.specs.declared.result.Result.{Result}
 use Rattle.std.specs.declared.result.Result.the-variants.{Ok, Err}
 use Rattle.bus.specs.Access.{bytes-of, misaligned}
 use Rattle.bus.specs.Fault.{raised}
-use Rattle.bus.specs.Laws.{Laws, alignment-first, bears-raised}
+use Rattle.bus.specs.Laws.{Laws, byte-or-none, alignment-first, bears-raised}
 use Rattle.bus.specs.Meaning.{Verdict, refused-if}
 use Rattle.bus.specs.Memory.{Bytes}
 use Rattle.bus.specs.declared.access.Access.{Access}
@@ -37,13 +36,9 @@ panel-verdict p a =
     (refused-if (not (on-panel p (a .address))) (raised Unmapped a 2)
     (refused-if (not (eqb (bytes-of a) 4)) (raised WrongWidth a 2) None))
 
-cond-byte : (b : Bool) (n : ℕ) → cond b (n % 256) 0 < 256
-cond-byte true n = omega arith
-cond-byte false n = omega arith
-
 pub panel-laws : Laws 2 panel-bytes panel-verdict
 panel-laws = record {
-  byte = λ p x. cond-byte (on-panel p x) _;
+  byte = λ p x. byte-or-none (on-panel p x) _;
   alignment = λ p a. alignment-first a _ _;
   fault = λ p a. bears-raised (misaligned a) _ a 2 _ (bears-raised (not (on-panel p (a .address))) _ a 2 _ (bears-raised (not (eqb (bytes-of a) 4)) _ a 2 _ tt));
 }

@@ -1,15 +1,14 @@
 -- A strip: the host's bytes at a base, the first of them read-only.
-use Prim.Native.Nat.{ℕ, _+_, _-_, _%_, _^_, _<_}
+use Prim.Native.Nat.{ℕ, _+_, _-_, _%_, _^_}
 use mathlib.Core.Bool.{Bool, true, false, not, cond, _&&_}
 use mathlib.Core.List.{List}
 use mathlib.Core.Path.{_≡_}
-use native.Mathlib.Omega.{arith}
 use lib.Dec.{eqb, leb, ltb}
 use lib.ListN.{length, getD}
 use Rattle.std.specs.declared.option.Option.the-variants.{None}
 use Rattle.bus.specs.Access.{is-write, bytes-of, misaligned}
 use Rattle.bus.specs.Fault.{raised}
-use Rattle.bus.specs.Laws.{Laws, alignment-first, bears-raised}
+use Rattle.bus.specs.Laws.{Laws, byte-or-none, alignment-first, bears-raised}
 use Rattle.bus.specs.Meaning.{Verdict, refused-if}
 use Rattle.bus.specs.Memory.{Bytes}
 use Rattle.bus.specs.declared.access.Access.{Access}
@@ -49,13 +48,9 @@ strip-verdict s = verdict-at (s .base) (length (s .bytes .now)) (s .«read_only�
 abbrev pub strip-fits : ℕ → ℕ → ℕ → Bool
 strip-fits n base k = leb n 65536 && leb (base + n) (2 ^ 32) && leb k n && eqb (base % 4) 0
 
-cond-byte : (b : Bool) (n : ℕ) → cond b (n % 256) 0 < 256
-cond-byte true n = omega arith
-cond-byte false n = omega arith
-
 pub strip-laws : Laws 1 strip-bytes strip-verdict
 strip-laws = record {
-  byte = λ s x. cond-byte (leb (s .base) x) _;
+  byte = λ s x. byte-or-none (leb (s .base) x) _;
   alignment = λ s a. alignment-first a _ _;
   fault = λ s a. bears-raised (misaligned a) _ a 1 _ (bears-raised (not (inside (s .base) (length (s .bytes .now)) a)) _ a 1 _ (bears-raised (hits-read-only (s .base + s .«read_only») a) _ a 1 _ tt));
 }
