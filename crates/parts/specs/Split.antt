@@ -1,9 +1,11 @@
 -- A split: two buses side by side.
-use Prim.Native.Nat.{ℕ, _/_, _<_}
+use Prim.Native.Nat.{ℕ, _+_, _/_, _≤_, _<_}
 use mathlib.Core.Bool.{Bool, true, false, cond}
+use mathlib.Core.Logic.{_⊎_}
 use mathlib.Core.Path.{_≡_}
 use lib.Dec.{ltb}
-use Rattle.bus.specs.Access.{misaligned}
+use Rattle.std.specs.declared.option.Option.the-variants.{None}
+use Rattle.bus.specs.Access.{bytes-of, misaligned}
 use Rattle.bus.specs.Fault.{raised}
 use Rattle.bus.specs.Laws.{Laws, Bears, alignment-first, bears-raised, bears-lifted}
 use Rattle.bus.specs.Meaning.{Verdict, refused-if, lifted}
@@ -23,6 +25,10 @@ abbrev pub split-verdict : ℕ → (Access → Verdict) → (Access → Verdict)
 split-verdict limit lower upper a =
     refused-if (misaligned a) (raised Misaligned a 3)
     (lifted (cond (below limit (a .address)) (lower a) (upper a)))
+
+-- an access that a split allows lies wholly in one of its buses, and that one allows it
+abbrev pub OneSide : ℕ → (Access → Verdict) → (Access → Verdict) → Type 0
+OneSide limit lower upper = (a : Access) → split-verdict limit lower upper a ≡ None → ((a .address + bytes-of a ≤ limit) × (lower a ≡ None)) ⊎ ((limit ≤ a .address) × (upper a ≡ None))
 
 byte-of-either : (b : Bool) (m n : ℕ) → m < 256 → n < 256 → cond b m n < 256
 byte-of-either true m n h k = h

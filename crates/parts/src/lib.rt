@@ -2,11 +2,15 @@
 mod hop;
 mod little_endian;
 mod panel;
+mod region;
 mod split;
 mod strip;
 
 pub use panel::Panel;
 pub use panel::PanelBus;
+pub use region::Region;
+pub use region::Rights;
+pub use region::Setting;
 pub use split::Limit;
 pub use split::Split;
 pub use split::SplitBus;

@@ -1,11 +1,10 @@
 // A split: two buses side by side, one below a limit and one from the limit on.
 ghost use mathlib.Core.Path.{_≡_};
-ghost use mathlib.Core.Bool.{cond};
 ghost use Prim.Native.Nat.{ℕ, _%_};
 ghost use lib.Dec.{eqb};
 ghost use Rattle.std.specs.Results.{isOk, Cases};
 ghost use Rattle.bus.specs.declared.refusal.Refusal.the-variants.{BadSetting};
-ghost use Rattle.parts.specs.Split.{joined, split-verdict, split-laws};
+ghost use Rattle.parts.specs.Split.{OneSide, joined, split-verdict, split-laws};
 use crate::hop;
 use bus::Access;
 use bus::Bus;
@@ -43,7 +42,8 @@ pub struct Split<L, U> {
 
 impl<L: Bus, U: Bus> Split<L, U> {
     pub fn new(limit: Limit, lower: L, upper: U) -> Split<L, U>
-        ensures { λ r. ⌜ r ≡ record { lower = lower; upper = upper; limit = limit .address } ⌝ }
+        ensures value { λ r. ⌜ r ≡ record { lower = lower; upper = upper; limit = limit .address } ⌝ }
+        ensures whole { λ _. ⌜ OneSide (limit .address) (L·Bus .verdict lower) (U·Bus .verdict upper) ⌝ }
     {
         Split {
             lower,
