@@ -1,3 +1,4 @@
+pub mod Deciders
 pub mod Hops
 pub mod Listed
 pub mod Panels

@@ -3,6 +3,7 @@ mod hop;
 mod little_endian;
 mod panel;
 mod region;
+mod region_check;
 mod split;
 mod strip;
 
