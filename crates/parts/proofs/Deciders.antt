@@ -43,3 +43,9 @@ pub greatest-decides : (test : ℕ → Bool) (n : ℕ) → Decides test n (great
 unfolding greatest
 greatest-decides test zero = λ j within. absurd (omega arith)
 greatest-decides test (suc n) = below-or-at test n (greatest test n) (test n) refl (greatest-decides test n)
+
+-- where nothing passes, there is none
+pub greatest-of-none : (test : ℕ → Bool) (n : ℕ) → ((k : ℕ) → test k ≡ false) → greatest test n ≡ None
+unfolding greatest
+greatest-of-none test zero none = refl
+greatest-of-none test (suc n) none = rw (none n) (greatest-of-none test n none)

@@ -9,7 +9,7 @@ use Rattle.std.specs.declared.option.Option.{Option}
 use Rattle.std.specs.declared.option.Option.the-variants.{Some, None}
 use Rattle.std.specs.declared.result.Result.{Result}
 use Rattle.std.specs.declared.result.Result.the-variants.{Ok, Err}
-use Rattle.bus.specs.Access.{misaligned}
+use Rattle.bus.specs.Access.{misaligned, covers as covers-byte}
 use Rattle.bus.specs.Fault.{raised}
 use Rattle.bus.specs.Laws.{Laws, alignment-first, bears-raised, bears-lifted}
 use Rattle.bus.specs.Meaning.{Verdict, refused-if, lifted}
@@ -20,6 +20,7 @@ use Rattle.bus.specs.declared.refusal.Refusal.{Refusal}
 use Rattle.bus.specs.declared.refusal.Refusal.the-variants.{OutOfRange}
 use Rattle.parts.specs.Region.{is-privileged, covers, permits, region-of, off-region}
 use Rattle.parts.specs.declared.region.Region.{Region}
+use Rattle.parts.specs.declared.region_check.RegionCheck.{RegionCheck}
 use Rattle.parts.specs.declared.region.Setting.{Setting}
 
 -- the greatest number below n that passes the test
@@ -47,6 +48,23 @@ passes-by None regions background a = background && is-privileged (a .right)
 
 abbrev pub passes : List Region → Bool → Access → Bool
 passes regions background a = passes-by (deciding regions (a .address)) regions background a
+
+-- one region, or none, decides on every byte of an aligned access
+abbrev pub OneDecider : List Region → Access → Type 0
+OneDecider regions a = misaligned a ≡ false → (x : ℕ) → covers-byte a x ≡ true → deciding regions x ≡ deciding regions (a .address)
+
+abbrev pub check-verdict : List Region → Bool → (Access → Verdict) → Access → Verdict
+check-verdict regions background below a =
+    refused-if (misaligned a) (raised Misaligned a 4)
+    (refused-if (not (passes regions background a)) (raised Forbidden a 4)
+    (lifted (below a)))
+
+pub check-laws : {B : Type 0} {i : ℕ} {bytes : B → Bytes} {verdict : B → Access → Verdict} → Laws i bytes verdict → Laws {S = RegionCheck B} 4 (λ s. bytes (s .below)) (λ s. check-verdict (s .table .regions) (s .background) (verdict (s .below)))
+check-laws laws = record {
+  byte = λ s. laws .byte (s .below);
+  alignment = λ s a. alignment-first a _ _;
+  fault = λ s a. bears-raised (misaligned a) _ a 4 _ (bears-raised (not (passes (s .table .regions) (s .background) a)) _ a 4 _ (bears-lifted a _ (laws .fault (s .below) a)));
+}
 
 -- the answer to setting region k, and the regions after it
 abbrev pub unit-answer : Result Region Refusal → Result (Unit {0}) Refusal

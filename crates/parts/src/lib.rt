@@ -12,6 +12,8 @@ pub use panel::PanelBus;
 pub use region::Region;
 pub use region::Rights;
 pub use region::Setting;
+pub use region_check::RegionCheck;
+pub use region_check::RegionCheckBus;
 pub use split::Limit;
 pub use split::Split;
 pub use split::SplitBus;

@@ -144,7 +144,8 @@ impl Region {
         }
         let address = u64::from(address);
         let eighth = (address >> (self.exponent - 3)) % 8;
-        address >> self.exponent == u64::from(self.base) >> self.exponent && (self.sub_marks >> eighth) % 2 == 0
+        address >> self.exponent == u64::from(self.base) >> self.exponent
+            && (self.sub_marks >> eighth) % 2 == 0
     }
 
     // Whether the region, where it decides, lets the access pass.

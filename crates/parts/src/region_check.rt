@@ -1,13 +1,13 @@
 // A region check: one bus, and eight regions that say who may use what of it.
 ghost use mathlib.Core.Path.{_≡_};
-ghost use mathlib.Core.Bool.{Bool, false};
+ghost use mathlib.Core.Bool.{Bool, false, _&&_};
 ghost use mathlib.Core.List.{List};
 ghost use Prim.Native.Nat.{ℕ};
 ghost use lib.ListN.{length, getD, replicate};
 ghost use Rattle.bus.specs.declared.access.Access.{Access};
 ghost use Rattle.parts.specs.declared.region.Region.{Region};
-ghost use Rattle.parts.specs.Region.{off-region};
-ghost use Rattle.parts.specs.RegionCheck.{covered-by, deciding, Decides, passes, setting-answer, regions-after};
+ghost use Rattle.parts.specs.Region.{off-region, is-privileged};
+ghost use Rattle.parts.specs.RegionCheck.{covered-by, deciding, Decides, OneDecider, passes, setting-answer, regions-after, check-verdict, check-laws};
 use crate::hop;
 use crate::region;
 use crate::region::Region;
@@ -26,7 +26,7 @@ pub struct Table {
 }
 
 // The number of the region that decides on an address: the highest that covers it.
-fn decider(regions: &[Region], address: u32) -> Option<usize>
+fn deciding_region(regions: &[Region], address: u32) -> Option<usize>
     ensures value { λ r. ⌜ r ≡ deciding (now (regions .entry)) address ⌝ }
     ensures highest { λ r. ⌜ Decides (covered-by (now (regions .entry)) address) (length (now (regions .entry))) r ⌝ }
 {
@@ -38,10 +38,10 @@ fn decider(regions: &[Region], address: u32) -> Option<usize>
     None
 }
 
-fn lets_pass(regions: &[Region], background: bool, access: Access) -> bool
+fn passes_regions(regions: &[Region], background: bool, access: Access) -> bool
     ensures { λ r. ⌜ r ≡ passes (now (regions .entry)) background access ⌝ }
 {
-    match decider(regions, access.address) {
+    match deciding_region(regions, access.address) {
         Some(number) => regions[number].permits(access),
         None => background && region::privileged(access.right),
     }
@@ -88,5 +88,48 @@ impl<B: Bus> RegionCheck<B> {
         ensures { λ _. ⌜ now (self .exit) ≡ record { below = now (self .entry) .below; table = now (self .entry) .table; background = on } ⌝ }
     {
         self.background = on;
+    }
+
+    // The number of the region that decides on an address.
+    pub fn decider(&self, address: u32) -> Option<usize>
+        ensures value { λ r. ⌜ r ≡ deciding (now (self .entry) .table .regions) address ⌝ }
+        ensures highest { λ r. ⌜ Decides (covered-by (now (self .entry) .table .regions) address) (length (now (self .entry) .table .regions)) r ⌝ }
+    {
+        deciding_region(&self.table.regions, address)
+    }
+
+    // Whether the regions let an access pass.
+    pub fn lets_pass(&self, access: Access) -> bool
+        ensures value { λ r. ⌜ r ≡ passes (now (self .entry) .table .regions) (now (self .entry) .background) access ⌝ }
+        ensures uncovered { λ r. ⌜ (((k : ℕ) → covered-by (now (self .entry) .table .regions) (access .address) k ≡ false) → r ≡ (now (self .entry) .background && is-privileged (access .right))) ⌝ }
+        ensures whole { λ _. ⌜ OneDecider (now (self .entry) .table .regions) access ⌝ }
+    {
+        passes_regions(&self.table.regions, self.background, access)
+    }
+}
+
+pub impl<B: Bus> Bus for RegionCheck<B> as RegionCheckBus {
+    const KIND: u8 = REGION_CHECK_KIND;
+
+    ghost kind = { 4 };
+
+    ghost bytes = { λ s. B·Bus .bytes (s .below) };
+
+    ghost verdict = { λ s. check-verdict (s .table .regions) (s .background) (B·Bus .verdict (s .below)) };
+
+    ghost Settings = { List Region × (Bool × B·Bus .Settings) };
+
+    ghost settings = { λ s. (s .table .regions, (s .background, B·Bus .settings (s .below))) };
+
+    ghost laws = { check-laws (B·Bus .laws) };
+
+    fn access(&mut self, access: Access, value: u32) -> Result<u32, Fault> {
+        if access.is_misaligned() {
+            return Err(Fault::raise(Cause::Misaligned, access, REGION_CHECK_KIND));
+        }
+        if !self.lets_pass(access) {
+            return Err(Fault::raise(Cause::Forbidden, access, REGION_CHECK_KIND));
+        }
+        hop::hand_up(self.below.access(access, value))
     }
 }

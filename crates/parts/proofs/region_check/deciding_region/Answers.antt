@@ -3,7 +3,7 @@ use native.Mathlib.Omega.{arith}
 use lib.ListN.{length}
 use Rattle.parts.specs.RegionCheck.{covered-by, Decides}
 use Rattle.parts.proofs.Deciders.{greatest-hit, greatest-miss, greatest-none, greatest-decides}
-use Rattle.parts.proofs.region_check.decider.Needs as need
+use Rattle.parts.proofs.region_check.deciding_region.Needs as need
 
 pub loop-number-again : need.loop-number-again
 loop-number-again c = c .loop-number .inv ∙ greatest-miss (covered-by (c .args .regions .now) (c .args .address)) (c .loop-number .number) (c .loop-number-test .taken) (sym (c .if-covers .ensures tt))
