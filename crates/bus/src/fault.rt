@@ -3,7 +3,7 @@ ghost use mathlib.Core.Path.{_≡_};
 ghost use Rattle.bus.specs.Fault.{cause-number, raised, handed-up};
 use crate::access::Access;
 
-// Why an access is refused.
+// Why an access is refused, and from Undefined on why the core refuses an instruction.
 #[derive(Clone, Copy)]
 pub enum Cause {
     Unmapped,
@@ -11,6 +11,12 @@ pub enum Cause {
     WrongWidth,
     Forbidden,
     Misaligned,
+    Undefined,
+    Unpredictable,
+    Breakpoint,
+    NotThumb,
+    SupervisorCallTooLow,
+    BadReturn,
 }
 
 impl Cause {
@@ -23,6 +29,12 @@ impl Cause {
             Cause::WrongWidth => 3,
             Cause::Forbidden => 4,
             Cause::Misaligned => 5,
+            Cause::Undefined => 6,
+            Cause::Unpredictable => 7,
+            Cause::Breakpoint => 8,
+            Cause::NotThumb => 9,
+            Cause::SupervisorCallTooLow => 10,
+            Cause::BadReturn => 11,
         }
     }
 }

@@ -4,10 +4,14 @@ ghost use Rattle.bus.specs.Refusal.{refusal-number};
 
 #[derive(Clone, Copy)]
 pub enum Refusal {
-    // a region or a panel word outside its range
+    // an exception, a region or a panel word outside its range
     OutOfRange,
+    // a rank above 3
+    RankTooHigh,
     // a length, base, limit, exponent or rights code that no part can have
     BadSetting,
+    // a step of a locked core
+    CoreLocked,
 }
 
 impl Refusal {
@@ -16,7 +20,9 @@ impl Refusal {
     {
         match self {
             Refusal::OutOfRange => 12,
+            Refusal::RankTooHigh => 13,
             Refusal::BadSetting => 14,
+            Refusal::CoreLocked => 15,
         }
     }
 }
