@@ -6,7 +6,7 @@ use mathlib.Core.Path.{_≡_}
 use Rattle.std.specs.declared.option.Option.the-variants.{None}
 use Rattle.std.specs.declared.result.Result.the-variants.{Ok, Err}
 use Rattle.bus.specs.Access.{is-write, covers}
-use Rattle.bus.specs.Program.{World, Reply, Program, done, ask, run}
+use Rattle.bus.specs.Program.{World, Reply, Program, done, ask}
 use Rattle.bus.specs.declared.access.Access.{Access}
 use Rattle.bus.specs.declared.access.Right.the-variants.{Unprivileged}
 use Rattle.bus.specs.declared.fault.Fault.{Fault}
@@ -41,3 +41,7 @@ Guarded Left (done a) = Unit {0}
 Guarded Left (ask a v k) =
     ((a .right ≡ Unprivileged) × ((r : Reply) → Guarded Left (k r)))
     ⊎ ((is-write (a .usage) ≡ false) × ((f : Fault) → Guarded Left (k (Err f))) × ((m n : ℕ) → Parted Left (k (Ok m)) (k (Ok n))))
+
+-- what two runs came to: the same answer and alike worlds, or answers that Left relates
+abbrev pub Twins : {A : Type 0} → (A → A → Type 0) → A × World → A × World → Type 0
+Twins Left x y = ((x .0 ≡ y .0) × Alike (x .1) (y .1)) ⊎ Left (x .0) (y .0)

@@ -1,0 +1,118 @@
+-- What a guarded program can see and change: what its unprivileged accesses can, whatever the verdicts are.
+use Prim.Native.Nat.{ℕ}
+use mathlib.Core.Bool.{Bool, true, false, cond}
+use mathlib.Core.Logic.{_⊎_, inl, inr}
+use mathlib.Core.Path.{_≡_, refl, sym, ap, subst, _∙_}
+use Rattle.std.specs.declared.option.Option.the-variants.{Some, None}
+use Rattle.std.specs.declared.result.Result.the-variants.{Ok, Err}
+use Rattle.bus.proofs.Answer.{read-leaves}
+use Rattle.bus.proofs.Memory.{store-byte, store-outside, load-agree}
+use Rattle.bus.specs.Access.{is-write, bytes-of}
+use Rattle.bus.specs.Isolation.{Unwritable, Alike, Unprivileged-only, Parted, Guarded, Twins}
+use Rattle.bus.specs.Meaning.{Verdict, answer, after, replied}
+use Rattle.bus.specs.Memory.{Bytes, load, store}
+use Rattle.bus.specs.Program.{World, Reply, Program, done, ask, bind, reply, left, run, Always}
+use Rattle.bus.specs.declared.access.Access.{Access}
+use Rattle.bus.specs.declared.access.Right.the-variants.{Unprivileged}
+use Rattle.bus.specs.declared.fault.Fault.{Fault}
+
+-- Guarded programs put together.
+
+pub unprivileged-bind : {A B : Type 0} (P : A → Type 0) (p : Program A) (next : A → Program B) → Unprivileged-only p → Always P p → ((a : A) → P a → Unprivileged-only (next a)) → Unprivileged-only (bind p next)
+unprivileged-bind P (done a) next only h each = each a h
+unprivileged-bind P (ask a v k) next only h each = (only .0, λ r. unprivileged-bind P (k r) next (only .1 r) (h r) each)
+
+pub unprivileged-guarded : {A : Type 0} (Left : A → A → Type 0) (p : Program A) → Unprivileged-only p → Guarded Left p
+unprivileged-guarded Left (done a) only = tt
+unprivileged-guarded Left (ask a v k) only = inl (only .0, λ r. unprivileged-guarded Left (k r) (only .1 r))
+
+parted-bind : {A B : Type 0} (L : A → A → Type 0) (R : B → B → Type 0) (p q : Program A) (next : A → Program B) → Parted L p q → ((a b : A) → L a b → Parted R (next a) (next b)) → Parted R (bind p next) (bind q next)
+parted-bind L R (done a) (done b) next part parts = parts a b part
+parted-bind L R (done a) (ask b v k) next part parts = absurd part
+parted-bind L R (ask a v k) (done b) next part parts = absurd part
+parted-bind L R (ask a v k) (ask b u l) next part parts = absurd part
+
+pub guarded-bind : {A B : Type 0} (P : A → Type 0) (L : A → A → Type 0) (R : B → B → Type 0) (p : Program A) (next : A → Program B) → Guarded L p → Always P p → ((a : A) → P a → Guarded R (next a)) → ((a b : A) → L a b → Parted R (next a) (next b)) → Guarded R (bind p next)
+guarded-bind P L R (done a) next guard h each parts = each a h
+guarded-bind P L R (ask a v k) next (inl guard) h each parts = inl (guard .0, λ r. guarded-bind P L R (k r) next (guard .1 r) (h r) each parts)
+guarded-bind P L R (ask a v k) next (inr guard) h each parts = inr (
+  guard .0,
+  λ f. guarded-bind P L R (k (Err f)) next (guard .1 f) (h (Err f)) each parts,
+  λ m n. parted-bind L R (k (Ok m)) (k (Ok n)) next (guard .2 m n) parts,
+)
+
+-- One access.
+
+pub alike-refl : (w : World) → Alike w w
+alike-refl w = (refl, λ x readable. refl)
+
+-- an unprivileged access gets the same reply from alike worlds
+alike-reply : (w u : World) (a : Access) → a .right ≡ Unprivileged → Alike w u → reply w a ≡ reply u a
+alike-reply w u a low alike = go (w .verdict a) refl (is-write (a .usage)) refl ∙ ap (λ verdict. answer (verdict a) (cond (is-write (a .usage)) 0 (loaded u))) (alike .0)
+  where
+    loaded : World → ℕ
+    loaded world = load (bytes-of a) (world .bytes) (a .address)
+
+    go : (d : Verdict) → w .verdict a ≡ d → (b : Bool) → is-write (a .usage) ≡ b → answer d (cond b 0 (loaded w)) ≡ answer d (cond b 0 (loaded u))
+    go (Some f) told b writes = refl
+    go None told true writes = refl
+    go None told false reads = ap Ok (load-agree (bytes-of a) (w .bytes) (u .bytes) (a .address) (λ x inside. alike .1 x (a, low, reads, told, inside)))
+
+-- and every access leaves alike worlds alike
+alike-left : (w u : World) (a : Access) (v : ℕ) → Alike w u → Alike (left w a v) (left u a v)
+alike-left w u a v alike = (alike .0, λ x readable. go x (w .verdict a) (is-write (a .usage)) (alike .1 x readable) ∙ ap (λ verdict. after (verdict a) (changed (is-write (a .usage)) (u .bytes)) (u .bytes) x) (alike .0))
+  where
+    changed : Bool → Bytes → Bytes
+    changed b m = cond b (store (bytes-of a) m (a .address) v) m
+
+    go : (x : ℕ) (d : Verdict) (b : Bool) → w .bytes x ≡ u .bytes x → after d (changed b (w .bytes)) (w .bytes) x ≡ after d (changed b (u .bytes)) (u .bytes) x
+    go x (Some f) b same = same
+    go x None false same = same
+    go x None true same = rw (store-byte (bytes-of a) (w .bytes) (a .address) v x, store-byte (bytes-of a) (u .bytes) (a .address) v x, same)
+
+-- a byte that no allowed unprivileged write covers is as it was after an unprivileged access
+unwritable-left : (w : World) (a : Access) (v x : ℕ) → a .right ≡ Unprivileged → Unwritable w x → left w a v .bytes x ≡ w .bytes x
+unwritable-left w a v x low unwritable = go (w .verdict a) refl (is-write (a .usage)) refl
+  where
+    go : (d : Verdict) → w .verdict a ≡ d → (b : Bool) → is-write (a .usage) ≡ b → after d (cond b (store (bytes-of a) (w .bytes) (a .address) v) (w .bytes)) (w .bytes) x ≡ w .bytes x
+    go (Some f) told b writes = refl
+    go None told false reads = refl
+    go None told true writes = store-outside (bytes-of a) (w .bytes) (a .address) v x (unwritable a low writes told)
+
+-- Whole programs.
+
+parted-twins : {A : Type 0} (Left : A → A → Type 0) (p q : Program A) (w u : World) → Parted Left p q → Twins Left (run p w) (run q u)
+parted-twins Left (done a) (done b) w u part = inr part
+parted-twins Left (done a) (ask b v k) w u part = absurd part
+parted-twins Left (ask a v k) (done b) w u part = absurd part
+parted-twins Left (ask a v k) (ask b v′ l) w u part = absurd part
+
+pub twins : {A : Type 0} (Left : A → A → Type 0) (p : Program A) (w u : World) → Guarded Left p → Alike w u → Twins Left (run p w) (run p u)
+twins Left (done a) w u guard alike = inl (refl, alike)
+twins Left (ask a v k) w u (inl guard) alike =
+    let same = alike-reply w u a (guard .0) alike in
+    let rest = twins Left (k (reply w a)) (left w a v) (left u a v) (guard .1 (reply w a)) (alike-left w u a v alike) in
+    subst (λ r. Twins Left (run (k (reply w a)) (left w a v)) (run (k r) (left u a v))) same rest
+twins Left (ask a v k) w u (inr guard) alike =
+    let alike-after = alike-left w u a v alike in
+    let rest = λ (f : Fault). twins Left (k (Err f)) (left w a v) (left u a v) (guard .1 f) alike-after in
+    subst (λ verdict. Twins Left (run (k (reply w a)) (left w a v)) (run (k (answer (verdict a) (replied (u .bytes) a))) (left u a v))) (alike .0) (go (w .verdict a) rest)
+  where
+    go : (d : Verdict) → ((f : Fault) → Twins Left (run (k (Err f)) (left w a v)) (run (k (Err f)) (left u a v))) → Twins Left (run (k (answer d (replied (w .bytes) a))) (left w a v)) (run (k (answer d (replied (u .bytes) a))) (left u a v))
+    go (Some f) rest = rest f
+    go None rest = parted-twins Left (k (Ok (replied (w .bytes) a))) (k (Ok (replied (u .bytes) a))) (left w a v) (left u a v) (guard .2 (replied (w .bytes) a) (replied (u .bytes) a))
+
+parted-leaves : {A : Type 0} (Left : A → A → Type 0) (p : Program A) (w : World) → Parted Left p p → run p w .1 ≡ w
+parted-leaves Left (done a) w part = refl
+parted-leaves Left (ask a v k) w part = absurd part
+
+pub confined : {A : Type 0} (Left : A → A → Type 0) (p : Program A) (w : World) (x : ℕ) → Guarded Left p → Unwritable w x → run p w .1 .bytes x ≡ w .bytes x
+confined Left (done a) w x guard unwritable = refl
+confined Left (ask a v k) w x (inl guard) unwritable = confined Left (k (reply w a)) (left w a v) x (guard .1 (reply w a)) unwritable ∙ unwritable-left w a v x (guard .0) unwritable
+confined Left (ask a v k) w x (inr guard) unwritable =
+    let rest = λ (f : Fault). confined Left (k (Err f)) (left w a v) x (guard .1 f) unwritable in
+    go (w .verdict a) rest ∙ ap (λ m. m x) (sym (read-leaves (w .verdict a) (w .bytes) a v (guard .0)))
+  where
+    go : (d : Verdict) → ((f : Fault) → run (k (Err f)) (left w a v) .1 .bytes x ≡ left w a v .bytes x) → run (k (answer d (replied (w .bytes) a))) (left w a v) .1 .bytes x ≡ left w a v .bytes x
+    go (Some f) rest = rest f
+    go None rest = ap (λ world. world .bytes x) (parted-leaves Left (k (Ok (replied (w .bytes) a))) (left w a v) (guard .2 (replied (w .bytes) a) (replied (w .bytes) a)))
