@@ -9,7 +9,7 @@ use Rattle.bus.proofs.Answer.{read-leaves}
 use Rattle.bus.proofs.Memory.{store-byte, store-outside, load-agree}
 use Rattle.bus.specs.Access.{is-write, bytes-of}
 use Rattle.bus.specs.Isolation.{Unwritable, Alike, Unprivileged-only, Parted, Guarded, Twins}
-use Rattle.bus.specs.Meaning.{Verdict, answer, after, replied}
+use Rattle.bus.specs.Meaning.{Verdict, answer, after, replied, written}
 use Rattle.bus.specs.Memory.{Bytes, load, store}
 use Rattle.bus.specs.Program.{World, Reply, Program, done, ask, bind, reply, left, run, Always}
 use Rattle.bus.specs.declared.access.Access.{Access}
@@ -48,7 +48,7 @@ alike-refl w = (refl, λ x readable. refl)
 
 -- an unprivileged access gets the same reply from alike worlds
 alike-reply : (w u : World) (a : Access) → a .right ≡ Unprivileged → Alike w u → reply w a ≡ reply u a
-alike-reply w u a low alike = go (w .verdict a) refl (is-write (a .usage)) refl ∙ ap (λ verdict. answer (verdict a) (cond (is-write (a .usage)) 0 (loaded u))) (alike .0)
+alike-reply w u a low alike = go (w .verdict a) refl (is-write (a .usage)) refl ∙ ap (λ verdict. answer (verdict a) (replied (u .bytes) a)) (alike .0)
   where
     loaded : World → ℕ
     loaded world = load (bytes-of a) (world .bytes) (a .address)
@@ -60,7 +60,7 @@ alike-reply w u a low alike = go (w .verdict a) refl (is-write (a .usage)) refl 
 
 -- and every access leaves alike worlds alike
 alike-left : (w u : World) (a : Access) (v : ℕ) → Alike w u → Alike (left w a v) (left u a v)
-alike-left w u a v alike = (alike .0, λ x readable. go x (w .verdict a) (is-write (a .usage)) (alike .1 x readable) ∙ ap (λ verdict. after (verdict a) (changed (is-write (a .usage)) (u .bytes)) (u .bytes) x) (alike .0))
+alike-left w u a v alike = (alike .0, λ x readable. go x (w .verdict a) (is-write (a .usage)) (alike .1 x readable) ∙ ap (λ verdict. after (verdict a) (written (u .bytes) a v) (u .bytes) x) (alike .0))
   where
     changed : Bool → Bytes → Bytes
     changed b m = cond b (store (bytes-of a) m (a .address) v) m
@@ -79,6 +79,14 @@ unwritable-left w a v x low unwritable = go (w .verdict a) refl (is-write (a .us
     go None told false reads = refl
     go None told true writes = store-outside (bytes-of a) (w .bytes) (a .address) v x (unwritable a low writes told)
 
+-- worlds of the same verdicts refuse an access with the same fault, or both grant it
+replies : (P : Reply → Reply → Type 0) (w u : World) (a : Access) → w .verdict ≡ u .verdict → ((f : Fault) → P (Err f) (Err f)) → ((m n : ℕ) → P (Ok m) (Ok n)) → P (reply w a) (reply u a)
+replies P w u a same refused granted = subst (λ verdict. P (reply w a) (answer (verdict a) (replied (u .bytes) a))) same (go (w .verdict a))
+  where
+    go : (d : Verdict) → P (answer d (replied (w .bytes) a)) (answer d (replied (u .bytes) a))
+    go (Some f) = refused f
+    go None = granted (replied (w .bytes) a) (replied (u .bytes) a)
+
 -- Whole programs.
 
 parted-twins : {A : Type 0} (Left : A → A → Type 0) (p q : Program A) (w u : World) → Parted Left p q → Twins Left (run p w) (run q u)
@@ -87,32 +95,28 @@ parted-twins Left (done a) (ask b v k) w u part = absurd part
 parted-twins Left (ask a v k) (done b) w u part = absurd part
 parted-twins Left (ask a v k) (ask b v′ l) w u part = absurd part
 
+-- alike worlds: the same answer and alike worlds again, or answers that Left relates
 pub twins : {A : Type 0} (Left : A → A → Type 0) (p : Program A) (w u : World) → Guarded Left p → Alike w u → Twins Left (run p w) (run p u)
 twins Left (done a) w u guard alike = inl (refl, alike)
 twins Left (ask a v k) w u (inl guard) alike =
-    let same = alike-reply w u a (guard .0) alike in
     let rest = twins Left (k (reply w a)) (left w a v) (left u a v) (guard .1 (reply w a)) (alike-left w u a v alike) in
-    subst (λ r. Twins Left (run (k (reply w a)) (left w a v)) (run (k r) (left u a v))) same rest
+    subst (λ r. Twins Left (run (k (reply w a)) (left w a v)) (run (k r) (left u a v))) (alike-reply w u a (guard .0) alike) rest
 twins Left (ask a v k) w u (inr guard) alike =
-    let alike-after = alike-left w u a v alike in
-    let rest = λ (f : Fault). twins Left (k (Err f)) (left w a v) (left u a v) (guard .1 f) alike-after in
-    subst (λ verdict. Twins Left (run (k (reply w a)) (left w a v)) (run (k (answer (verdict a) (replied (u .bytes) a))) (left u a v))) (alike .0) (go (w .verdict a) rest)
-  where
-    go : (d : Verdict) → ((f : Fault) → Twins Left (run (k (Err f)) (left w a v)) (run (k (Err f)) (left u a v))) → Twins Left (run (k (answer d (replied (w .bytes) a))) (left w a v)) (run (k (answer d (replied (u .bytes) a))) (left u a v))
-    go (Some f) rest = rest f
-    go None rest = parted-twins Left (k (Ok (replied (w .bytes) a))) (k (Ok (replied (u .bytes) a))) (left w a v) (left u a v) (guard .2 (replied (w .bytes) a) (replied (u .bytes) a))
+    replies (λ r s. Twins Left (run (k r) (left w a v)) (run (k s) (left u a v))) w u a (alike .0)
+    (λ f. twins Left (k (Err f)) (left w a v) (left u a v) (guard .1 f) (alike-left w u a v alike))
+    (λ m n. parted-twins Left (k (Ok m)) (k (Ok n)) (left w a v) (left u a v) (guard .2 m n))
 
-parted-leaves : {A : Type 0} (Left : A → A → Type 0) (p : Program A) (w : World) → Parted Left p p → run p w .1 ≡ w
-parted-leaves Left (done a) w part = refl
-parted-leaves Left (ask a v k) w part = absurd part
+parted-leaves : {A : Type 0} (Left : A → A → Type 0) (p q : Program A) (w : World) → Parted Left p q → run p w .1 ≡ w
+parted-leaves Left (done a) q w part = refl
+parted-leaves Left (ask a v k) (done b) w part = absurd part
+parted-leaves Left (ask a v k) (ask b u l) w part = absurd part
 
+-- each byte that no allowed unprivileged write covers is as it was
 pub confined : {A : Type 0} (Left : A → A → Type 0) (p : Program A) (w : World) (x : ℕ) → Guarded Left p → Unwritable w x → run p w .1 .bytes x ≡ w .bytes x
 confined Left (done a) w x guard unwritable = refl
 confined Left (ask a v k) w x (inl guard) unwritable = confined Left (k (reply w a)) (left w a v) x (guard .1 (reply w a)) unwritable ∙ unwritable-left w a v x (guard .0) unwritable
 confined Left (ask a v k) w x (inr guard) unwritable =
-    let rest = λ (f : Fault). confined Left (k (Err f)) (left w a v) x (guard .1 f) unwritable in
-    go (w .verdict a) rest ∙ ap (λ m. m x) (sym (read-leaves (w .verdict a) (w .bytes) a v (guard .0)))
-  where
-    go : (d : Verdict) → ((f : Fault) → run (k (Err f)) (left w a v) .1 .bytes x ≡ left w a v .bytes x) → run (k (answer d (replied (w .bytes) a))) (left w a v) .1 .bytes x ≡ left w a v .bytes x
-    go (Some f) rest = rest f
-    go None rest = ap (λ world. world .bytes x) (parted-leaves Left (k (Ok (replied (w .bytes) a))) (left w a v) (guard .2 (replied (w .bytes) a) (replied (w .bytes) a)))
+    replies (λ r s. run (k r) (left w a v) .1 .bytes x ≡ left w a v .bytes x) w w a refl
+    (λ f. confined Left (k (Err f)) (left w a v) x (guard .1 f) unwritable)
+    (λ m n. ap (λ world. world .bytes x) (parted-leaves Left (k (Ok m)) (k (Ok n)) (left w a v) (guard .2 m n)))
+    ∙ ap (λ m. m x) (sym (read-leaves (w .verdict a) (w .bytes) a v (guard .0)))

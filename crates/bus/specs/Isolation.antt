@@ -1,12 +1,12 @@
 -- What unprivileged code can see and change of a world.
 use Prim.Native.Nat.{ℕ}
-use mathlib.Core.Bool.{true, false}
+use mathlib.Core.Bool.{Bool, true, false}
 use mathlib.Core.Logic.{_⊎_}
 use mathlib.Core.Path.{_≡_}
 use Rattle.std.specs.declared.option.Option.the-variants.{None}
 use Rattle.std.specs.declared.result.Result.the-variants.{Ok, Err}
 use Rattle.bus.specs.Access.{is-write, covers}
-use Rattle.bus.specs.Program.{World, Reply, Program, done, ask}
+use Rattle.bus.specs.Program.{World, Reply, Program, done, ask, run}
 use Rattle.bus.specs.declared.access.Access.{Access}
 use Rattle.bus.specs.declared.access.Right.the-variants.{Unprivileged}
 use Rattle.bus.specs.declared.fault.Fault.{Fault}
@@ -45,3 +45,11 @@ Guarded Left (ask a v k) =
 -- what two runs came to: the same answer and alike worlds, or answers that Left relates
 abbrev pub Twins : {A : Type 0} → (A → A → Type 0) → A × World → A × World → Type 0
 Twins Left x y = ((x .0 ≡ y .0) × Alike (x .1) (y .1)) ⊎ Left (x .0) (y .0)
+
+-- a guarded program cannot tell alike worlds apart, up to answers that a test relates
+abbrev pub Twins-stand : Type 0 → Type 0
+Twins-stand A = (parts : A → A → Bool) (p : Program A) (w u : World) → Guarded (λ a b. parts a b ≡ true) p → Alike w u → Twins (λ a b. parts a b ≡ true) (run p w) (run p u)
+
+-- and it leaves each byte that unprivileged code cannot write as it was
+abbrev pub Confined-stands : Type 0 → Type 0
+Confined-stands A = (parts : A → A → Bool) (p : Program A) (w : World) (x : ℕ) → Guarded (λ a b. parts a b ≡ true) p → Unwritable w x → run p w .1 .bytes x ≡ w .bytes x
