@@ -7,6 +7,7 @@ use Rattle.std.specs.declared.option.Option.the-variants.{Some, None}
 use Rattle.std.specs.declared.result.Result.the-variants.{Ok, Err}
 use Rattle.bus.proofs.Answer.{read-leaves}
 use Rattle.bus.proofs.Memory.{store-byte, store-outside, load-agree}
+use Rattle.bus.proofs.Programs.{always-all}
 use Rattle.bus.specs.Access.{is-write, bytes-of}
 use Rattle.bus.specs.Isolation.{Unwritable, Alike, Unprivileged-only, Parted, Guarded, Twins}
 use Rattle.bus.specs.Meaning.{Verdict, answer, after, replied, written}
@@ -22,24 +23,32 @@ pub unprivileged-bind : {A B : Type 0} (P : A → Type 0) (p : Program A) (next 
 unprivileged-bind P (done a) next only h each = each a h
 unprivileged-bind P (ask a v k) next only h each = (only .0, λ r. unprivileged-bind P (k r) next (only .1 r) (h r) each)
 
+pub unprivileged-then : {A B : Type 0} (p : Program A) (next : A → Program B) → Unprivileged-only p → ((a : A) → Unprivileged-only (next a)) → Unprivileged-only (bind p next)
+unprivileged-then p next only each = unprivileged-bind (λ a. Unit {0}) p next only (always-all (λ a. Unit {0}) p (λ a. tt)) (λ a h. each a)
+
 pub unprivileged-guarded : {A : Type 0} (Left : A → A → Type 0) (p : Program A) → Unprivileged-only p → Guarded Left p
 unprivileged-guarded Left (done a) only = tt
 unprivileged-guarded Left (ask a v k) only = inl (only .0, λ r. unprivileged-guarded Left (k r) (only .1 r))
 
-parted-bind : {A B : Type 0} (L : A → A → Type 0) (R : B → B → Type 0) (p q : Program A) (next : A → Program B) → Parted L p q → ((a b : A) → L a b → Parted R (next a) (next b)) → Parted R (bind p next) (bind q next)
-parted-bind L R (done a) (done b) next part parts = parts a b part
-parted-bind L R (done a) (ask b v k) next part parts = absurd part
-parted-bind L R (ask a v k) (done b) next part parts = absurd part
-parted-bind L R (ask a v k) (ask b u l) next part parts = absurd part
+-- what holds of two ends that Left relates holds of parted programs
+parted : {A : Type 0} (Left : A → A → Type 0) (P : Program A → Program A → Type 0) (p q : Program A) → ((a b : A) → Left a b → P (done a) (done b)) → Parted Left p q → P p q
+parted Left P (done a) (done b) ends part = ends a b part
+parted Left P (done a) (ask b v k) ends part = absurd part
+parted Left P (ask a v k) (done b) ends part = absurd part
+parted Left P (ask a v k) (ask b u l) ends part = absurd part
 
+-- guarded programs in sequence: what follows is guarded, and ends where the first has parted
 pub guarded-bind : {A B : Type 0} (P : A → Type 0) (L : A → A → Type 0) (R : B → B → Type 0) (p : Program A) (next : A → Program B) → Guarded L p → Always P p → ((a : A) → P a → Guarded R (next a)) → ((a b : A) → L a b → Parted R (next a) (next b)) → Guarded R (bind p next)
-guarded-bind P L R (done a) next guard h each parts = each a h
-guarded-bind P L R (ask a v k) next (inl guard) h each parts = inl (guard .0, λ r. guarded-bind P L R (k r) next (guard .1 r) (h r) each parts)
-guarded-bind P L R (ask a v k) next (inr guard) h each parts = inr (
+guarded-bind P L R (done a) next guard h each ends = each a h
+guarded-bind P L R (ask a v k) next (inl guard) h each ends = inl (guard .0, λ r. guarded-bind P L R (k r) next (guard .1 r) (h r) each ends)
+guarded-bind P L R (ask a v k) next (inr guard) h each ends = inr (
   guard .0,
-  λ f. guarded-bind P L R (k (Err f)) next (guard .1 f) (h (Err f)) each parts,
-  λ m n. parted-bind L R (k (Ok m)) (k (Ok n)) next (guard .2 m n) parts,
+  λ f. guarded-bind P L R (k (Err f)) next (guard .1 f) (h (Err f)) each ends,
+  λ m n. parted L (λ p q. Parted R (bind p next) (bind q next)) (k (Ok m)) (k (Ok n)) ends (guard .2 m n),
 )
+
+pub guarded-then : {A B : Type 0} (Left : B → B → Type 0) (p : Program A) (next : A → Program B) → Unprivileged-only p → ((a : A) → Guarded Left (next a)) → Guarded Left (bind p next)
+guarded-then Left p next only each = guarded-bind (λ a. Unit {0}) (λ a b. ⊥) Left p next (unprivileged-guarded (λ a b. ⊥) p only) (always-all (λ a. Unit {0}) p (λ a. tt)) (λ a h. each a) (λ a b part. absurd part)
 
 -- One access.
 
@@ -89,12 +98,6 @@ replies P w u a same refused granted = subst (λ verdict. P (reply w a) (answer 
 
 -- Whole programs.
 
-parted-twins : {A : Type 0} (Left : A → A → Type 0) (p q : Program A) (w u : World) → Parted Left p q → Twins Left (run p w) (run q u)
-parted-twins Left (done a) (done b) w u part = inr part
-parted-twins Left (done a) (ask b v k) w u part = absurd part
-parted-twins Left (ask a v k) (done b) w u part = absurd part
-parted-twins Left (ask a v k) (ask b v′ l) w u part = absurd part
-
 -- alike worlds: the same answer and alike worlds again, or answers that Left relates
 pub twins : {A : Type 0} (Left : A → A → Type 0) (p : Program A) (w u : World) → Guarded Left p → Alike w u → Twins Left (run p w) (run p u)
 twins Left (done a) w u guard alike = inl (refl, alike)
@@ -102,21 +105,16 @@ twins Left (ask a v k) w u (inl guard) alike =
     let rest = twins Left (k (reply w a)) (left w a v) (left u a v) (guard .1 (reply w a)) (alike-left w u a v alike) in
     subst (λ r. Twins Left (run (k (reply w a)) (left w a v)) (run (k r) (left u a v))) (alike-reply w u a (guard .0) alike) rest
 twins Left (ask a v k) w u (inr guard) alike =
-    replies (λ r s. Twins Left (run (k r) (left w a v)) (run (k s) (left u a v))) w u a (alike .0)
-    (λ f. twins Left (k (Err f)) (left w a v) (left u a v) (guard .1 f) (alike-left w u a v alike))
-    (λ m n. parted-twins Left (k (Ok m)) (k (Ok n)) (left w a v) (left u a v) (guard .2 m n))
-
-parted-leaves : {A : Type 0} (Left : A → A → Type 0) (p q : Program A) (w : World) → Parted Left p q → run p w .1 ≡ w
-parted-leaves Left (done a) q w part = refl
-parted-leaves Left (ask a v k) (done b) w part = absurd part
-parted-leaves Left (ask a v k) (ask b u l) w part = absurd part
+    let refused = λ (f : Fault). twins Left (k (Err f)) (left w a v) (left u a v) (guard .1 f) (alike-left w u a v alike) in
+    let granted = λ (m n : ℕ). parted Left (λ p q. Twins Left (run p (left w a v)) (run q (left u a v))) (k (Ok m)) (k (Ok n)) (λ a b part. inr part) (guard .2 m n) in
+    replies (λ r s. Twins Left (run (k r) (left w a v)) (run (k s) (left u a v))) w u a (alike .0) refused granted
 
 -- each byte that no allowed unprivileged write covers is as it was
 pub confined : {A : Type 0} (Left : A → A → Type 0) (p : Program A) (w : World) (x : ℕ) → Guarded Left p → Unwritable w x → run p w .1 .bytes x ≡ w .bytes x
 confined Left (done a) w x guard unwritable = refl
 confined Left (ask a v k) w x (inl guard) unwritable = confined Left (k (reply w a)) (left w a v) x (guard .1 (reply w a)) unwritable ∙ unwritable-left w a v x (guard .0) unwritable
 confined Left (ask a v k) w x (inr guard) unwritable =
-    replies (λ r s. run (k r) (left w a v) .1 .bytes x ≡ left w a v .bytes x) w w a refl
-    (λ f. confined Left (k (Err f)) (left w a v) x (guard .1 f) unwritable)
-    (λ m n. ap (λ world. world .bytes x) (parted-leaves Left (k (Ok m)) (k (Ok n)) (left w a v) (guard .2 m n)))
-    ∙ ap (λ m. m x) (sym (read-leaves (w .verdict a) (w .bytes) a v (guard .0)))
+    let same = ap (λ m. m x) (read-leaves (w .verdict a) (w .bytes) a v (guard .0)) in
+    let refused = λ (f : Fault). confined Left (k (Err f)) (left w a v) x (guard .1 f) unwritable in
+    let granted = λ (m n : ℕ). parted Left (λ p q. run p (left w a v) .1 .bytes x ≡ left w a v .bytes x) (k (Ok m)) (k (Ok n)) (λ a b part. refl) (guard .2 m n) in
+    replies (λ r s. run (k r) (left w a v) .1 .bytes x ≡ left w a v .bytes x) w w a refl refused granted ∙ sym same
