@@ -1,7 +1,7 @@
 -- What a guarded program can see and change: what its unprivileged accesses can, whatever the verdicts are.
 use Prim.Native.Nat.{ℕ}
 use mathlib.Core.Bool.{Bool, true, false, cond}
-use mathlib.Core.Logic.{_⊎_, inl, inr}
+use mathlib.Core.Logic.{inl, inr}
 use mathlib.Core.Path.{_≡_, refl, sym, ap, subst, _∙_}
 use Rattle.std.specs.declared.option.Option.the-variants.{Some, None}
 use Rattle.std.specs.declared.result.Result.the-variants.{Ok, Err}
@@ -17,7 +17,7 @@ use Rattle.bus.specs.declared.access.Access.{Access}
 use Rattle.bus.specs.declared.access.Right.the-variants.{Unprivileged}
 use Rattle.bus.specs.declared.fault.Fault.{Fault}
 
--- Guarded programs put together.
+-- Programs in sequence: `bind` where P holds of the first one's answers, `then` where nothing is asked of them.
 
 pub unprivileged-bind : {A B : Type 0} (P : A → Type 0) (p : Program A) (next : A → Program B) → Unprivileged-only p → Always P p → ((a : A) → P a → Unprivileged-only (next a)) → Unprivileged-only (bind p next)
 unprivileged-bind P (done a) next only h each = each a h
@@ -37,7 +37,7 @@ parted Left P (done a) (ask b v k) ends part = absurd part
 parted Left P (ask a v k) (done b) ends part = absurd part
 parted Left P (ask a v k) (ask b u l) ends part = absurd part
 
--- guarded programs in sequence: what follows is guarded, and ends where the first has parted
+-- what follows is guarded, and ends where the first has parted
 pub guarded-bind : {A B : Type 0} (P : A → Type 0) (L : A → A → Type 0) (R : B → B → Type 0) (p : Program A) (next : A → Program B) → Guarded L p → Always P p → ((a : A) → P a → Guarded R (next a)) → ((a b : A) → L a b → Parted R (next a) (next b)) → Guarded R (bind p next)
 guarded-bind P L R (done a) next guard h each ends = each a h
 guarded-bind P L R (ask a v k) next (inl guard) h each ends = inl (guard .0, λ r. guarded-bind P L R (k r) next (guard .1 r) (h r) each ends)

@@ -1,5 +1,4 @@
 -- Laws of programs of accesses.
-use Prim.Native.Nat.{ℕ}
 use mathlib.Core.Path.{_≡_, refl, ap, fun-ext}
 use Rattle.bus.specs.Program.{World, Program, done, ask, bind, reply, left, run, Always}
 
