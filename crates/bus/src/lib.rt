@@ -1,6 +1,7 @@
 // What a bus is: accesses, faults, and the rules that every bus keeps.
 mod access;
 mod fault;
+mod guarded;
 mod interface;
 mod refusal;
 
@@ -10,5 +11,6 @@ pub use access::Use;
 pub use access::Width;
 pub use fault::Cause;
 pub use fault::Fault;
+pub use guarded::programs_are_isolated;
 pub use interface::Bus;
 pub use refusal::Refusal;
