@@ -1,4 +1,5 @@
 pub mod Extend
 pub mod Fields
 pub mod Integers
+pub mod Shifts
 pub mod Sums

@@ -3,6 +3,7 @@
 mod extend;
 mod fields;
 mod logic;
+mod shifts;
 mod sums;
 
 pub use extend::sign_extend;
@@ -15,5 +16,8 @@ pub use logic::eor;
 pub use logic::mul;
 pub use logic::not;
 pub use logic::or;
+pub use shifts::Shift;
+pub use shifts::Shifted;
+pub use shifts::shift_c;
 pub use sums::Sum;
 pub use sums::add_with_carry;
