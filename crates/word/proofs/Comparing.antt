@@ -11,9 +11,9 @@ use Rattle.word.specs.Sums.{add-with-carry}
 
 pub orders : (x y : ℕ) → x < 2 ^ 32 → y < 2 ^ 32 → Orders x y (of-sum (add-with-carry x (2 ^ 32 - 1 - y) true))
 orders x y h k = record {
-    equal = grind (arith, ints, tells);
-    higher-same = grind (arith, ints, tells);
-    higher = grind (arith, ints, tells);
-    greater-equal = grind (arith, ints, tells, eqZ-tells);
-    greater = grind (arith, ints, tells, eqZ-tells)
-  }
+  equal = grind (arith, ints, tells);
+  higher-same = grind (arith, ints, tells);
+  higher = grind (arith, ints, tells);
+  greater-equal = grind (arith, ints, tells, eqZ-tells);
+  greater = grind (arith, ints, tells, eqZ-tells);
+}

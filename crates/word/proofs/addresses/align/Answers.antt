@@ -10,5 +10,5 @@ returns-else-n-eq0 c =
     record {
       value = value;
       multiple = λ h. rw value (mul-mod-right (c .args .n) (c .args .x / c .args .n));
-      nearest = λ h. omega (arith, mod-lt (c .args .x) h)
+      nearest = λ h. omega (arith, mod-lt (c .args .x) h);
     }
