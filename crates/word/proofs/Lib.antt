@@ -2,6 +2,7 @@ pub mod Adding
 pub mod Asr
 pub mod Bitwise
 pub mod Comparing
+pub mod Lowest
 pub mod Members
 pub mod Moves
 pub mod Rotate

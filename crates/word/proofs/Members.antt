@@ -49,10 +49,11 @@ ones-more x k e =
     let new : ones (x + 2 ^ k) ≡ ones (q + 1) + ones r = rw sum at (ones-cat k (q + 1) r below) in
     omega (arith, old, new, ones-step q, ones-step (q + 1), ap ones same)
 
+or-one : (x k : ℕ) → bitOr x (2 ^ k) ≡ cond (bit-of x k) x (x + 2 ^ k)
+or-one x k = grind (arith, tells, or-add-and x (2 ^ k), and-one x k)
+
 bit-more : (x k : ℕ) → bit-of x k ≡ false → (j : ℕ) → bit-of (x + 2 ^ k) j ≡ (bit-of x j || eqb j k)
-bit-more x k e j =
-    let sum : bitOr x (2 ^ k) ≡ x + 2 ^ k = grind (arith, tells, or-add-and x (2 ^ k), and-one x k) in
-    (rw (sum, bit-one) at (bit-or x (2 ^ k) j))
+bit-more x k e j = rw (or-one x k, e, bit-one) at (bit-or x (2 ^ k) j)
 
 -- a bit that is taken away was there, and is clear after
 taken : (x k : ℕ) → bit-of x k ≡ true → (x - 2 ^ k + 2 ^ k ≡ x) × (bit-of (x - 2 ^ k) k ≡ false)
@@ -71,10 +72,16 @@ single-some w k p = mod-eq-of-lt (pow-lt p)
 
 -- as a word of w bits computes them
 module _ (w x k : ℕ) (h : x < 2 ^ w) where
+  pub has-is : not (eqb (bitAnd x (2 ^ k % 2 ^ w)) 0) ≡ bit-of x k
+  has-is = elim (leb-tells w k) [
+    | inl p ↦ rw (single-none w k (p .1), and-zero-r, none-above x w k h (p .1))
+    | inr p ↦ rw (single-some w k (p .1), and-one) (grind (arith, tells, pow-pos k))
+  ]
+
   pub with-is : bitOr x (2 ^ k % 2 ^ w) ≡ set-with w x k
   with-is = elim (leb-tells w k) [
     | inl p ↦ rw (single-none w k (p .1), or-zero-r) (grind (arith, tells, p .1))
-    | inr p ↦ rw (single-some w k (p .1)) (grind (arith, tells, p .1, or-add-and x (2 ^ k), and-one x k))
+    | inr p ↦ rw (single-some w k (p .1), or-one) (grind (arith, tells, p .1))
   ]
 
   pub without-is : bitAnd x (2 ^ w - 1 - 2 ^ k % 2 ^ w) ≡ set-without x k

@@ -1,6 +1,7 @@
 -- Sets of numbers below a width, as the bits of a word.
-use mathlib.Core.Bool.{cond, not, _&&_}
-use Prim.Native.Nat.{ℕ, _+_, _-_, _^_}
+use mathlib.Core.Bool.{true, false, cond, not, _&&_}
+use mathlib.Core.Path.{_≡_}
+use Prim.Native.Nat.{ℕ, _+_, _-_, _^_, _<_}
 use lib.Dec.{ltb}
 use Rattle.word.specs.Fields.{bit-of}
 
@@ -11,3 +12,9 @@ set-with w set k = cond (ltb k w && not (bit-of set k)) (set + 2 ^ k) set
 -- the set without k
 abbrev pub set-without : ℕ → ℕ → ℕ
 set-without set k = cond (bit-of set k) (set - 2 ^ k) set
+
+-- LowestSetBit(set) is k, below w
+pub record Least (w set k : ℕ) : Type 0 where
+  pub within : k < w
+  pub member : bit-of set k ≡ true
+  pub lowest : (j : ℕ) → j < k → bit-of set j ≡ false

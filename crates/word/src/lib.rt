@@ -30,6 +30,7 @@ pub use reverse::rev;
 pub use reverse::rev16;
 pub use reverse::revsh;
 pub use sets::has;
+pub use sets::least;
 pub use sets::with;
 pub use sets::without;
 pub use shifts::Shift;

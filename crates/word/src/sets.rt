@@ -3,22 +3,23 @@ ghost use mathlib.Core.Path.{_≡_};
 ghost use Prim.Native.Nat.{ℕ, _+_, _%_, _^_};
 ghost use lib.Count.{ones};
 ghost use lib.Dec.{eqb, ltb};
+ghost use Rattle.std.specs.Options.{Cases};
 ghost use Rattle.word.specs.Fields.{bit-of};
-ghost use Rattle.word.specs.Sets.{set-with, set-without};
+ghost use Rattle.word.specs.Sets.{Least, set-with, set-without};
 ghost use Rattle.word.specs.Sums.{one-if};
-
-/// Whether `k` is in the set whose members are the bits that are set.
-pub fn has(set: u64, k: u32) -> bool
-    ensures { λ r. ⌜ r ≡ bit-of set k ⌝ }
-{
-    if k < 64 { (set >> k) % 2 == 1 } else { false }
-}
 
 /// The set of `k` alone; empty where a word has no such bit.
 fn single(k: u32) -> u64
     ensures { λ r. ⌜ r ≡ 2 ^ k % 2 ^ 64 ⌝ }
 {
     if k < 64 { 1 << k } else { 0 }
+}
+
+/// Whether `k` is in the set, whose members are the bits that are set.
+pub fn has(set: u64, k: u32) -> bool
+    ensures { λ r. ⌜ r ≡ bit-of set k ⌝ }
+{
+    set & single(k) != 0
 }
 
 /// The set with `k`, which has room for the numbers below 64.
@@ -37,4 +38,11 @@ pub fn without(set: u64, k: u32) -> u64
     ensures count { λ r. ⌜ ones r + one-if (bit-of set k) ≡ ones set ⌝ }
 {
     set & !single(k)
+}
+
+/// The least number in the set, if it has one.
+pub fn least(set: u64) -> Option<u32>
+    ensures { λ r. ⌜ Cases r (set ≡ 0) (Least 64 set) ⌝ }
+{
+    if set == 0 { None } else { Some(set.trailing_zeros()) }
 }
