@@ -4,11 +4,12 @@ use lib.Bits.{bitAnd, bitOr, bitXor, and-mod, and-shr, or-mod, or-shr, xor-mod, 
 use lib.Dec.{eqb}
 use lib.Pow.{pow-pos, shr-lt}
 use mathlib.Core.Bool.{Bool, true, false, not, xor, _&&_, _||_}
+use mathlib.Core.Logic.{inl, inr}
 use mathlib.Core.Path.{_≡_, refl, ap, _∙_}
 use native.Mathlib.Nat.{mod-lt, two-pow-succ}
 use native.Mathlib.Omega.{arith}
-use Rattle.std.proofs.shelf.Ways.{tells}
-use Rattle.word.proofs.Widths.{not-shr}
+use Rattle.std.proofs.shelf.Ways.{leb-tells, tells}
+use Rattle.word.proofs.Widths.{none-above, not-shr}
 use Rattle.word.specs.Fields.{bit-of}
 
 by-digits : (P : ℕ → ℕ → Type 0) → P 0 0 → P 0 1 → P 1 0 → P 1 1 → (a b : ℕ) → a < 2 → b < 2 → P a b
@@ -51,3 +52,10 @@ bit-not x w k h below =
     let under : x / 2 ^ k < 2 ^ suc j = shr-lt (suc j) k low in
     let turned : (2 ^ w - 1 - x) / 2 ^ k % 2 ≡ 1 - x / 2 ^ k % 2 = omega (arith, moved, two-pow-succ j, pow-pos j) in
     grind (arith, tells)
+
+-- a word's bits that are clear in another
+pub bit-bic : (x y w k : ℕ) → x < 2 ^ w → y < 2 ^ w → bit-of (bitAnd x (2 ^ w - 1 - y)) k ≡ (bit-of x k && not (bit-of y k))
+bit-bic x y w k h below = bit-and x (2 ^ w - 1 - y) k ∙ elim (leb-tells w k) [
+  | inl p ↦ rw (none-above x w k h (p .1))
+  | inr p ↦ rw (bit-not y w k below (p .1))
+]

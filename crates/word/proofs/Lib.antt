@@ -5,6 +5,7 @@ pub mod Comparing
 pub mod Lowest
 pub mod Members
 pub mod Moves
+pub mod Product
 pub mod Rotate
 pub mod ShiftLaw
 pub mod Signs

@@ -5,6 +5,7 @@ pub mod Extend
 pub mod Fields
 pub mod Flags
 pub mod Integers
+pub mod Logic
 pub mod Reverse
 pub mod Sets
 pub mod Shifts
