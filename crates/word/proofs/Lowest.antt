@@ -24,10 +24,10 @@ by-digit w x t zero e p above =
     clear zero h = grind (arith, tells, div-one x)
     clear (suc j) h = sym (bit-half x j) ∙ above (omega arith) .lowest j (omega arith)
 by-digit w x t (suc d) e p above = record {
-    within = omega arith;
-    member = grind (arith, tells, div-one x);
-    lowest = λ j h. absurd (omega arith)
-  }
+  within = omega arith;
+  member = grind (arith, tells, div-one x);
+  lowest = λ j h. absurd (omega arith);
+}
 
 pub least-is : (w x : ℕ) → 0 < x → x < 2 ^ w → Least w x (trailingZeros w x)
 unfolding trailingZeros

@@ -11,6 +11,8 @@ mod reverse;
 mod sets;
 mod shifts;
 mod sums;
+#[cfg(test)]
+mod tests;
 
 pub use addresses::align;
 pub use compare::compared;

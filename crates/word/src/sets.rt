@@ -44,5 +44,9 @@ pub fn without(set: u64, k: u32) -> u64
 pub fn least(set: u64) -> Option<u32>
     ensures { λ r. ⌜ Cases r (set ≡ 0) (Least 64 set) ⌝ }
 {
-    if set == 0 { None } else { Some(set.trailing_zeros()) }
+    if set == 0 {
+        None
+    } else {
+        Some(set.trailing_zeros())
+    }
 }
