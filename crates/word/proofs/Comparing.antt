@@ -7,7 +7,7 @@ use Rattle.std.proofs.shelf.Ways.{tells}
 use Rattle.word.proofs.Signs.{eqZ-tells}
 use Rattle.word.specs.Compare.{Orders}
 use Rattle.word.specs.Flags.{of-sum}
-use Rattle.word.specs.Logic.{not-word}
+use Rattle.word.specs.Bitwise.{not-word}
 use Rattle.word.specs.Sums.{add-with-carry}
 
 pub orders : (x y : ℕ) → x < 2 ^ 32 → y < 2 ^ 32 → Orders x y (of-sum (add-with-carry x (not-word y) true))

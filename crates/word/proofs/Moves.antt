@@ -9,7 +9,7 @@ use mathlib.Core.Path.{_≡_, refl, ap, sym, _∙_}
 use native.Mathlib.Nat.{add-comm, mul-assoc, mul-mod-left, sub-zero, zero-div}
 use native.Mathlib.Omega.{arith}
 use Rattle.std.proofs.shelf.Ways.{leb-tells, tells}
-use Rattle.word.proofs.Bitwise.{bit-not}
+use Rattle.word.proofs.EachBit.{bit-not}
 use Rattle.word.proofs.Widths.{none-above}
 use Rattle.word.specs.Extend.{replicate, sign-extend}
 use Rattle.word.specs.Fields.{bit-of}

@@ -9,7 +9,7 @@ use mathlib.Core.Path.{_≡_, ap, sym, _∙_}
 use native.Mathlib.Nat.{div-one, mod-eq-of-lt, mul-mod-left, mul-one}
 use native.Mathlib.Omega.{arith}
 use Rattle.std.proofs.shelf.Ways.{leb-tells}
-use Rattle.word.proofs.Bitwise.{bit-or}
+use Rattle.word.proofs.EachBit.{bit-or}
 use Rattle.word.proofs.Moves.{bit-cut, bit-shl, bit-shr}
 use Rattle.word.proofs.Widths.{none-above}
 use Rattle.word.specs.Fields.{bit-of, field-of}

@@ -16,10 +16,6 @@ none-above x w n h k = div-eq-of-lt (lt-of-lt-of-le h (pow-mono k))
 pub all-below : (x w n : ℕ) → x < 2 ^ w → w ≤ n → x % 2 ^ n ≡ x
 all-below x w n h k = mod-eq-of-lt (lt-of-lt-of-le h (pow-mono k))
 
--- the mask of n ones, as a word of w bits computes it
-pub masked : (x w n : ℕ) → n < w → bitAnd x ((1 * 2 ^ n) % 2 ^ w - 1) ≡ x % 2 ^ n
-masked x w n h = rw (one-shl n w h) (and-mask x n)
-
 -- NOT and a move down change places
 pub not-shr : (x j k : ℕ) → x < 2 ^ (j + k) → (2 ^ (j + k) - 1 - x) / 2 ^ k ≡ 2 ^ j - 1 - x / 2 ^ k
 not-shr x j k h =

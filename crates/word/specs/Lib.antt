@@ -1,11 +1,11 @@
 pub mod Addresses
+pub mod Bitwise
 pub mod Compare
 pub mod Conditions
 pub mod Extend
 pub mod Fields
 pub mod Flags
 pub mod Integers
-pub mod Logic
 pub mod Reverse
 pub mod Sets
 pub mod Shifts

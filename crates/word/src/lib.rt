@@ -1,12 +1,13 @@
 //! What Armv6-M instructions compute: pure functions on words, flags and sets of bits.
 
 mod addresses;
+mod bitwise;
 mod compare;
 mod conditions;
 mod extend;
 mod fields;
 mod flags;
-mod logic;
+mod products;
 mod reverse;
 mod sets;
 mod shifts;
@@ -15,6 +16,9 @@ mod sums;
 mod tests;
 
 pub use addresses::align;
+pub use bitwise::Logic;
+pub use bitwise::logical;
+pub use bitwise::not;
 pub use compare::compared;
 pub use conditions::Condition;
 pub use extend::sign_extend;
@@ -22,12 +26,7 @@ pub use extend::zero_extend;
 pub use fields::bit;
 pub use fields::field;
 pub use flags::Flags;
-pub use logic::and;
-pub use logic::bic;
-pub use logic::eor;
-pub use logic::mul;
-pub use logic::not;
-pub use logic::or;
+pub use products::mul;
 pub use reverse::rev;
 pub use reverse::rev16;
 pub use reverse::revsh;
