@@ -1,12 +1,12 @@
 -- What an operation on words does to each bit.
-use Prim.Native.Nat.{ℕ, zero, suc, _+_, _-_, _*_, _/_, _%_, _^_, _≤_, _<_}
+use Prim.Native.Nat.{ℕ, zero, suc, _+_, _-_, _/_, _%_, _^_, _<_}
 use lib.Bits.{bitAnd, bitOr, bitXor, and-mod, and-shr, or-mod, or-shr, xor-mod, xor-shr}
 use lib.Dec.{eqb}
 use lib.Pow.{pow-pos, shr-lt}
 use mathlib.Core.Bool.{Bool, true, false, not, xor, _&&_, _||_}
 use mathlib.Core.Logic.{inl, inr}
 use mathlib.Core.Path.{_≡_, refl, ap, _∙_}
-use native.Mathlib.Nat.{mod-lt, two-pow-succ}
+use native.Mathlib.Nat.{two-pow-succ}
 use native.Mathlib.Omega.{arith}
 use Rattle.std.proofs.shelf.Ways.{leb-tells, tells}
 use Rattle.word.proofs.Widths.{none-above, not-shr}

@@ -1,6 +1,6 @@
 -- The lowest bit that is set.
 use lib.Count.{trailingZeros, under}
-use mathlib.Core.Bool.{true, false}
+use mathlib.Core.Bool.{false}
 use mathlib.Core.Path.{_≡_, refl, sym, _∙_}
 use native.Mathlib.Nat.{div-one, two-pow-succ}
 use native.Mathlib.Numerals.{add-one}

@@ -1,8 +1,8 @@
 -- One bit put into a word, or taken out of it.
-use Prim.Native.Nat.{ℕ, zero, suc, _+_, _-_, _*_, _/_, _%_, _^_, _≤_, _<_, min}
+use Prim.Native.Nat.{ℕ, zero, suc, _+_, _-_, _*_, _/_, _%_, _^_, _≤_, _<_}
 use lib.Bits.{bitAnd, bitOr, and-high, and-step, and-zero-r, or-add-and, or-zero-r}
 use lib.Count.{ones, ones-cat, ones-step}
-use lib.Dec.{eqb, leb, ltb}
+use lib.Dec.{eqb, ltb}
 use lib.Pow.{high, pow-add, pow-lt, pow-pos, split}
 use mathlib.Core.Bool.{Bool, true, false, cond, not, _&&_, _||_}
 use mathlib.Core.Logic.{inl, inr}
@@ -10,7 +10,7 @@ use mathlib.Core.Path.{_≡_, refl, ap, sym, _∙_}
 use native.Mathlib.Nat.{add-mul, add-zero, mod-eq-of-lt, mod-lt, one-mul, two-pow-succ}
 use native.Mathlib.Omega.{arith}
 use Rattle.std.proofs.shelf.Ways.{leb-tells, tells}
-use Rattle.word.proofs.EachBit.{bit-and, bit-not, bit-or}
+use Rattle.word.proofs.EachBit.{bit-or}
 use Rattle.word.proofs.Moves.{bit-shl, shl-past}
 use Rattle.word.proofs.Widths.{none-above}
 use Rattle.word.specs.Fields.{bit-of}

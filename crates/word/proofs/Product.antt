@@ -1,6 +1,6 @@
 -- The low word of a product of signed words.
 use lib.IntN.{_*ℤ_}
-use mathlib.Core.Path.{_≡_, ap, sym, _∙_}
+use mathlib.Core.Path.{_≡_}
 use mir.Syntax.{w32}
 use mir.Val.{toZ}
 use native.Mathlib.Omega.{arith}

@@ -1,12 +1,10 @@
 -- Facts about shifts and widths, each over the width or the amount.
-use Prim.Native.Nat.{ℕ, zero, suc, _+_, _-_, _*_, _/_, _%_, _^_, _≤_, _<_}
+use Prim.Native.Nat.{ℕ, _+_, _-_, _*_, _/_, _%_, _^_, _≤_, _<_}
 use lib.Arith.{digits-div}
-use lib.Bits.{bitAnd, and-mask}
 use lib.Pow.{pow-add, pow-mono, pow-pos, shr-lt, split}
 use mathlib.Core.Path.{_≡_, ap, sym, _∙_}
 use native.Mathlib.Nat.{add-mul, div-eq-of-lt, lt-of-lt-of-le, mod-eq-of-lt, mod-lt}
 use native.Mathlib.Omega.{arith}
-use Rattle.std.proofs.shelf.Bits.{one-shl}
 
 -- from its width up a word has no bits
 pub none-above : (x w n : ℕ) → x < 2 ^ w → w ≤ n → x / 2 ^ n ≡ 0
