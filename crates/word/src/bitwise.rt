@@ -1,7 +1,5 @@
 ghost use mathlib.Core.Path.{_≡_};
-ghost use Prim.Native.Nat.{ℕ};
-ghost use Rattle.word.specs.Bitwise.{logic-of, not-word, on-bits};
-ghost use Rattle.word.specs.Fields.{bit-of};
+ghost use Rattle.word.specs.Bitwise.{Combined, not-word};
 ghost use Rattle.word.specs.declared.bitwise.Logic.the-variants.{And, Bic, Eor, Orr};
 
 /// The logical operations on two words. BIC is AND with NOT.
@@ -15,8 +13,7 @@ pub enum Logic {
 
 /// The operation on each two bits.
 pub fn logical(op: Logic, x: u32, y: u32) -> u32
-    ensures value { λ r. ⌜ r ≡ logic-of op x y ⌝ }
-    ensures bits { λ r. ⌜ ((k : ℕ) → bit-of r k ≡ on-bits op (bit-of x k) (bit-of y k)) ⌝ }
+    ensures { λ r. ⌜ Combined op x y r ⌝ }
 {
     match op {
         Logic::And => and(x, y),
@@ -34,29 +31,25 @@ pub fn not(x: u32) -> u32
 }
 
 fn and(x: u32, y: u32) -> u32
-    ensures value { λ r. ⌜ r ≡ logic-of And x y ⌝ }
-    ensures bits { λ r. ⌜ ((k : ℕ) → bit-of r k ≡ on-bits And (bit-of x k) (bit-of y k)) ⌝ }
+    ensures { λ r. ⌜ Combined And x y r ⌝ }
 {
     x & y
 }
 
 fn orr(x: u32, y: u32) -> u32
-    ensures value { λ r. ⌜ r ≡ logic-of Orr x y ⌝ }
-    ensures bits { λ r. ⌜ ((k : ℕ) → bit-of r k ≡ on-bits Orr (bit-of x k) (bit-of y k)) ⌝ }
+    ensures { λ r. ⌜ Combined Orr x y r ⌝ }
 {
     x | y
 }
 
 fn eor(x: u32, y: u32) -> u32
-    ensures value { λ r. ⌜ r ≡ logic-of Eor x y ⌝ }
-    ensures bits { λ r. ⌜ ((k : ℕ) → bit-of r k ≡ on-bits Eor (bit-of x k) (bit-of y k)) ⌝ }
+    ensures { λ r. ⌜ Combined Eor x y r ⌝ }
 {
     x ^ y
 }
 
 fn bic(x: u32, y: u32) -> u32
-    ensures value { λ r. ⌜ r ≡ logic-of Bic x y ⌝ }
-    ensures bits { λ r. ⌜ ((k : ℕ) → bit-of r k ≡ on-bits Bic (bit-of x k) (bit-of y k)) ⌝ }
+    ensures { λ r. ⌜ Combined Bic x y r ⌝ }
 {
     x & !y
 }
