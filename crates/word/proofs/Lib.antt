@@ -1,0 +1,12 @@
+pub mod Asr
+pub mod Comparing
+pub mod EachBit
+pub mod Lowest
+pub mod Members
+pub mod Moves
+pub mod Overflow
+pub mod Product
+pub mod Rotate
+pub mod ShiftLaw
+pub mod Signs
+pub mod Widths

@@ -1,0 +1,12 @@
+pub mod Addresses
+pub mod Bitwise
+pub mod Compare
+pub mod Conditions
+pub mod Extend
+pub mod Fields
+pub mod Flags
+pub mod Integers
+pub mod Reverse
+pub mod Sets
+pub mod Shifts
+pub mod Sums
