@@ -1,0 +1,2 @@
+pub mod Diagram
+pub mod Table
