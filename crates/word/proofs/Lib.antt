@@ -1,1 +1,4 @@
+pub mod Adding
+pub mod Bitwise
+pub mod Signs
 pub mod Widths

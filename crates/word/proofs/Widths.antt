@@ -1,9 +1,11 @@
 -- Facts about shifts and widths, each over the width or the amount.
-use Prim.Native.Nat.{ℕ, zero, _-_, _*_, _/_, _%_, _^_, _≤_, _<_}
+use Prim.Native.Nat.{ℕ, zero, suc, _+_, _-_, _*_, _/_, _%_, _^_, _≤_, _<_}
+use lib.Arith.{digits-div}
 use lib.Bits.{bitAnd, and-mask}
-use lib.Pow.{pow-mono}
-use mathlib.Core.Path.{_≡_}
-use native.Mathlib.Nat.{div-eq-of-lt, lt-of-lt-of-le, mod-eq-of-lt}
+use lib.Pow.{pow-add, pow-mono, pow-pos, shr-lt, split}
+use mathlib.Core.Path.{_≡_, ap, sym, _∙_}
+use native.Mathlib.Nat.{add-mul, div-eq-of-lt, lt-of-lt-of-le, mod-eq-of-lt, mod-lt}
+use native.Mathlib.Omega.{arith}
 use Rattle.std.proofs.shelf.Bits.{one-shl}
 
 -- from its width up a word has no bits
@@ -17,3 +19,14 @@ all-below x w n h k = mod-eq-of-lt (lt-of-lt-of-le h (pow-mono k))
 -- the mask of n ones, as a word of w bits computes it
 pub masked : (x w n : ℕ) → n < w → bitAnd x ((1 * 2 ^ n) % 2 ^ w - 1) ≡ x % 2 ^ n
 masked x w n h = rw (one-shl n w h) (and-mask x n)
+
+-- NOT and a move down change places
+pub not-shr : (x j k : ℕ) → x < 2 ^ (j + k) → (2 ^ (j + k) - 1 - x) / 2 ^ k ≡ 2 ^ j - 1 - x / 2 ^ k
+not-shr x j k h =
+    let r : 2 ^ k - 1 - x % 2 ^ k < 2 ^ k = omega (arith, pow-pos k) in
+    let below : x / 2 ^ k < 2 ^ j = shr-lt j k h in
+    let p : ℕ = 2 ^ j - 1 - x / 2 ^ k in
+    let whole : (p + 1 + x / 2 ^ k) * 2 ^ k ≡ 2 ^ (j + k) = ap (λ (n : ℕ). n * 2 ^ k) (omega arith) ∙ sym (pow-add 2 j k) in
+    let parts : 2 ^ (j + k) - 1 - x ≡ p * 2 ^ k + (2 ^ k - 1 - x % 2 ^ k) =
+        omega (arith, whole, add-mul (p + 1) (x / 2 ^ k) (2 ^ k), add-mul p 1 (2 ^ k), split x k, mod-lt x (pow-pos k)) in
+    ap (λ (n : ℕ). n / 2 ^ k) parts ∙ digits-div p r

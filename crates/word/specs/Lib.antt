@@ -1,1 +1,4 @@
+pub mod Extend
 pub mod Fields
+pub mod Integers
+pub mod Sums
