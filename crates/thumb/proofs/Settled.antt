@@ -14,7 +14,8 @@ use Rattle.std.specs.declared.result.Result.{Result}
 use Rattle.std.specs.declared.result.Result.the-variants.{Ok, Err}
 use Rattle.std.proofs.shelf.Ways.{tells}
 use Rattle.thumb.specs.Diagram.{Bits, bits-of, letter, agrees, spelled, size}
-use Rattle.thumb.specs.Table.{Row, Answer, lookup, table, decoded}
+use Rattle.thumb.specs.Rows.{Row, Answer, narrow-rows, wide-rows}
+use Rattle.thumb.specs.Decoded.{fits, answer, lookup, decoded-narrow}
 use Rattle.thumb.specs.declared.instructions.Refusal.{Refusal}
 use Rattle.thumb.specs.declared.instructions.Refusal.the-variants.{Undefined, Unpredictable}
 
@@ -162,10 +163,17 @@ found-at rs ks x h =
     finds rs (bits-of x) ∙ ap (λ g. found rs (bits-of x) g) (fun-ext λ l. fun-ext λ d. joins (letter l) d x)
     ∙ ap (λ b. found rs b (fields x)) (fun-ext (sees ks x h))
 
-unfoldable pub settled : List Fact → ℕ → Answer
-unfolding table agrees
-settled ks x = found table (sight ks x) (fields x)
+-- the answer of a table where some bits are known
+unfoldable pub settled : List Row → List Fact → ℕ → Answer
+unfolding narrow-rows wide-rows agrees
+settled rs ks x = found rs (sight ks x) (fields x)
 
-pub settles : (ks : List Fact) (x : ℕ) → Holds x ks → {r : Answer} → r ≡ settled ks x → r ≡ decoded x
-unfolding decoded settled
-settles ks x h e = e ∙ sym (found-at table ks x h)
+pub settles : (rs : List Row) (ks : List Fact) (x : ℕ) → Holds x ks → {r : Answer} → r ≡ settled rs ks x
+    → r ≡ lookup rs (bits-of x)
+unfolding settled
+settles rs ks x h e = e ∙ sym (found-at rs ks x h)
+
+-- the commonest case: the bits of a halfword from k up
+pub by-prefix : (x k p : ℕ) → x / 2 ^ k ≡ p → {r : Answer} → r ≡ settled narrow-rows (above k p ∷ []) x
+    → r ≡ decoded-narrow x
+by-prefix x k p h e = settles narrow-rows (above k p ∷ []) x (h, tt) e

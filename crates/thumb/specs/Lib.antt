@@ -1,2 +1,4 @@
 pub mod Diagram
-pub mod Table
+pub mod Operands
+pub mod Rows
+pub mod Decoded
