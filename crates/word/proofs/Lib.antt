@@ -1,4 +1,10 @@
 pub mod Adding
+pub mod Asr
 pub mod Bitwise
+pub mod Comparing
+pub mod Members
+pub mod Moves
+pub mod Rotate
+pub mod ShiftLaw
 pub mod Signs
 pub mod Widths

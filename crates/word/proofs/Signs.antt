@@ -35,7 +35,7 @@ module _ (w : ℕ) (h : 0 < w) where
 
 -- a word extended by its sign stands for the same integer
 module _ (w n x : ℕ) (h : 0 < w) (k : w ≤ n) (below : x < 2 ^ w) where
-  ones-above : (2 ^ (n - w) - 1) * 2 ^ w + 2 ^ w ≡ 2 ^ n
+  pub ones-above : (2 ^ (n - w) - 1) * 2 ^ w + 2 ^ w ≡ 2 ^ n
   ones-above = let e : n - w + w ≡ n = omega arith in omega (arith, rw e at (high-ones (n - w) w), pow-mono k)
 
   by-sign : (b : Bool) → bit-of x (w - 1) ≡ b → signed n (replicate b (n - w) * 2 ^ w + x) ≡ cond b (pos x -ℤ pos (2 ^ w)) (pos x)
@@ -55,4 +55,4 @@ module _ (w n x : ℕ) (h : 0 < w) (k : w ≤ n) (below : x < 2 ^ w) where
   extend-by-sub less e =
       rw (e, one-shl w n less)
       (let same : x + (2 ^ n - 2 ^ w) ≡ (2 ^ (n - w) - 1) * 2 ^ w + x = omega (arith, ones-above, pow-mono k) in
-        rw same (mod-eq-of-lt (omega (arith, ones-above))))
+      rw same (mod-eq-of-lt (omega (arith, ones-above))))

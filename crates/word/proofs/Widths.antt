@@ -28,5 +28,5 @@ not-shr x j k h =
     let p : ℕ = 2 ^ j - 1 - x / 2 ^ k in
     let whole : (p + 1 + x / 2 ^ k) * 2 ^ k ≡ 2 ^ (j + k) = ap (λ (n : ℕ). n * 2 ^ k) (omega arith) ∙ sym (pow-add 2 j k) in
     let parts : 2 ^ (j + k) - 1 - x ≡ p * 2 ^ k + (2 ^ k - 1 - x % 2 ^ k) =
-        omega (arith, whole, add-mul (p + 1) (x / 2 ^ k) (2 ^ k), add-mul p 1 (2 ^ k), split x k, mod-lt x (pow-pos k)) in
+    omega (arith, whole, add-mul (p + 1) (x / 2 ^ k) (2 ^ k), add-mul p 1 (2 ^ k), split x k, mod-lt x (pow-pos k)) in
     ap (λ (n : ℕ). n / 2 ^ k) parts ∙ digits-div p r

@@ -1,4 +1,11 @@
+pub mod Addresses
+pub mod Compare
+pub mod Conditions
 pub mod Extend
 pub mod Fields
+pub mod Flags
 pub mod Integers
+pub mod Reverse
+pub mod Sets
+pub mod Shifts
 pub mod Sums

@@ -23,5 +23,5 @@ add-with-carry x y carry-in =
     record {
       value = result;
       carry = not (eqb result (unsigned-sum x y carry-in));
-      overflow = not (eqZ (signed 32 result) (signed-sum x y carry-in))
+      overflow = not (eqZ (signed 32 result) (signed-sum x y carry-in));
     }

@@ -9,7 +9,11 @@ use super::fields::bit;
 pub fn zero_extend(x: u32, width: u32) -> u32
     ensures { λ r. ⌜ r ≡ x % 2 ^ width ⌝ }
 {
-    if width < 32 { x & ((1 << width) - 1) } else { x }
+    if width < 32 {
+        x & ((1 << width) - 1)
+    } else {
+        x
+    }
 }
 
 /// SignExtend of the low `width` bits of `x`: as a signed number they stay what they are.

@@ -17,5 +17,5 @@ returns-then-bit c =
     let value = extend-by-sub w 32 low (omega arith) (omega arith) below (omega arith) (sym (c .if-bit .ensures tt)) in
     record {
       value = value ∙ ap (sign-extend w 32) is;
-      number = λ h k. ap (signed 32) value ∙ signed-extend w 32 low h k below ∙ ap (signed w) is
+      number = λ h k. ap (signed 32) value ∙ signed-extend w 32 low h k below ∙ ap (signed w) is;
     }
