@@ -29,12 +29,11 @@ Holds x [] = Unit {0}
 Holds x (above from value ∷ ks) = (x / 2 ^ from ≡ value) × Holds x ks
 Holds x (slice from count value ∷ ks) = (x / 2 ^ from % 2 ^ count ≡ value) × Holds x ks
 
--- the bits of x, with those that are known in their place
-abbrev sight : List Fact → ℕ → Bits
-sight [] x j = bits-of x j
-sight (above from value ∷ ks) x j = cond (leb from j) (bits-of value (j - from)) (sight ks x j)
-sight (slice from count value ∷ ks) x j =
-    cond (leb from j && ltb j (from + count)) (bits-of value (j - from)) (sight ks x j)
+-- some bits, with those of x that are known in their places
+abbrev pub sight : List Fact → Bits → Bits
+sight [] b j = b j
+sight (above from value ∷ ks) b j = cond (leb from j) (bits-of value (j - from)) (sight ks b j)
+sight (slice from count value ∷ ks) b j = cond (leb from j && ltb j (from + count)) (bits-of value (j - from)) (sight ks b j)
 
 bit-above : (x from j : ℕ) → from ≤ j → bits-of x j ≡ bits-of (x / 2 ^ from) (j - from)
 bit-above x from j h =
@@ -51,21 +50,21 @@ bit-within x from count j h k =
     bit-above x from j h ∙ bit-below (x / 2 ^ from) (j - from) (count - (j - from) - 1)
     ∙ ap (λ c. bits-of (x / 2 ^ from % 2 ^ c) (j - from)) e
 
-sees : (ks : List Fact) (x : ℕ) → Holds x ks → (j : ℕ) → bits-of x j ≡ sight ks x j
-sees [] x h j = refl
-sees (above from value ∷ ks) x h j = on (leb from j) refl (sees ks x (h .1) j)
+pub sees : (ks : List Fact) (x : ℕ) → Holds x ks → (b : Bits) (j : ℕ) → bits-of x j ≡ b j → bits-of x j ≡ sight ks b j
+sees [] x h b j e = e
+sees (above from value ∷ ks) x h b j e = on (leb from j) refl (sees ks x (h .1) b j e)
   where
-    on : (b : Bool) → leb from j ≡ b → bits-of x j ≡ sight ks x j
-        → bits-of x j ≡ cond b (bits-of value (j - from)) (sight ks x j)
-    on false p e = e
-    on true p e = bit-above x from j (leb-true _ _ p) ∙ ap (λ v. bits-of v (j - from)) (h .0)
-sees (slice from count value ∷ ks) x h j = on (leb from j) refl (ltb j (from + count)) refl (sees ks x (h .1) j)
+    on : (a : Bool) → leb from j ≡ a → bits-of x j ≡ sight ks b j
+        → bits-of x j ≡ cond a (bits-of value (j - from)) (sight ks b j)
+    on false p r = r
+    on true p r = bit-above x from j (leb-true _ _ p) ∙ ap (λ v. bits-of v (j - from)) (h .0)
+sees (slice from count value ∷ ks) x h b j e = on (leb from j) refl (ltb j (from + count)) refl (sees ks x (h .1) b j e)
   where
-    on : (a : Bool) → leb from j ≡ a → (b : Bool) → ltb j (from + count) ≡ b → bits-of x j ≡ sight ks x j
-        → bits-of x j ≡ cond (a && b) (bits-of value (j - from)) (sight ks x j)
-    on false p b q e = e
-    on true p false q e = e
-    on true p true q e =
+    on : (a : Bool) → leb from j ≡ a → (c : Bool) → ltb j (from + count) ≡ c → bits-of x j ≡ sight ks b j
+        → bits-of x j ≡ cond (a && c) (bits-of value (j - from)) (sight ks b j)
+    on false p c q r = r
+    on true p false q r = r
+    on true p true q r =
         bit-within x from count j (leb-true _ _ p) (ltb-true _ _ q) ∙ ap (λ v. bits-of v (j - from)) (h .0)
 
 -- the fields of a diagram as pieces (from, count), the highest first
@@ -158,15 +157,15 @@ finds (r ∷ rs) b =
      (cond (agrees (letter "z") (letter "w") (r .drawn) b) (r .means (λ l. spelled (letter l) (r .drawn) b)) (Err Unpredictable)))
     (finds rs b)
 
-found-at : (rs : List Row) (ks : List Fact) (x : ℕ) → Holds x ks → lookup rs (bits-of x) ≡ found rs (sight ks x) (fields x)
+found-at : (rs : List Row) (ks : List Fact) (x : ℕ) → Holds x ks → lookup rs (bits-of x) ≡ found rs (sight ks (bits-of x)) (fields x)
 found-at rs ks x h =
     finds rs (bits-of x) ∙ ap (λ g. found rs (bits-of x) g) (fun-ext λ l. fun-ext λ d. joins (letter l) d x)
-    ∙ ap (λ b. found rs b (fields x)) (fun-ext (sees ks x h))
+    ∙ ap (λ b. found rs b (fields x)) (fun-ext λ j. sees ks x h (bits-of x) j refl)
 
 -- the answer of a table where some bits are known
 unfoldable pub settled : List Row → List Fact → ℕ → Answer
 unfolding narrow-rows wide-rows agrees
-settled rs ks x = found rs (sight ks x) (fields x)
+settled rs ks x = found rs (sight ks (bits-of x)) (fields x)
 
 pub settles : (rs : List Row) (ks : List Fact) (x : ℕ) → Holds x ks → {r : Answer} → r ≡ settled rs ks x
     → r ≡ lookup rs (bits-of x)

@@ -9,6 +9,8 @@ use Rattle.std.specs.declared.option.Option.{Option}
 use Rattle.std.specs.declared.option.Option.the-variants.{Some, None}
 use Rattle.std.specs.declared.result.Result.{Result}
 use Rattle.std.specs.declared.result.Result.the-variants.{Ok, Err}
+use Rattle.word.specs.declared.conditions.Condition.{Condition}
+use Rattle.word.specs.declared.conditions.Condition.the-variants.{Eq, Ne, Cs, Cc, Mi, Pl, Vs, Vc, Hi, Ls, Ge, Lt, Gt, Le}
 use Rattle.thumb.specs.Operands.{flag, shift-amount, branch-offset, link-offset, special-registers, listed}
 use Rattle.thumb.specs.declared.instructions.Instruction.{Instruction}
 use Rattle.thumb.specs.declared.instructions.Instruction.the-variants.{Basic, Data, Special, Unary, Transfer, Multiple, Branch, System}
@@ -22,7 +24,7 @@ use Rattle.thumb.specs.declared.instructions.Transfer.{Transfer as Transfer-op
 use Rattle.thumb.specs.declared.instructions.Transfer.the-variants.{Str, Strh, Strb, Ldrsb, Ldr, Ldrh, Ldrb, Ldrsh}
 use Rattle.thumb.specs.declared.instructions.Address.the-variants.{Indexed, Offset, Literal}
 use Rattle.thumb.specs.declared.instructions.Multiple.the-variants.{Stm, Ldm, Push, Pop}
-use Rattle.thumb.specs.declared.instructions.Branch.the-variants.{B, Bl, Bx, Blx}
+use Rattle.thumb.specs.declared.instructions.Branch.the-variants.{B, If, Bl, Bx, Blx}
 use Rattle.thumb.specs.declared.instructions.SpecialRegister.{SpecialRegister}
 use Rattle.thumb.specs.declared.instructions.System.{System as System-op}
 use Rattle.thumb.specs.declared.instructions.System.the-variants.{Svc, Bkpt, Udf, UdfWide, Cps, Hint, Dsb, Dmb, Isb, Mrs, Msr}
@@ -63,6 +65,9 @@ offset o scale f = Ok (Transfer o (f "t") (Offset (f "n") (f "i" * scale)))
 
 abbrev pub stacked : Transfer-op → Fields → Answer
 stacked o f = Ok (Transfer o (f "t") (Offset 13 (f "i" * 4)))
+
+abbrev pub branch-if : Condition → Fields → Answer
+branch-if c f = Ok (Branch (If c (branch-offset 9 (f "i"))))
 
 abbrev pub chosen : Option SpecialRegister → (SpecialRegister → System-op) → Answer
 chosen None make = Err Unpredictable
@@ -170,6 +175,20 @@ abbrev pub multiples-and-branches : List Row
 multiples-and-branches =
     row "11000nnnllllllll" (λ f. unless (eqb (f "l") 0) (Multiple (Stm (f "n") (f "l"))))
     ∷ row "11001nnnllllllll" (λ f. unless (eqb (f "l") 0) (Multiple (Ldm (f "n") (f "l"))))
+    ∷ row "11010000iiiiiiii" (branch-if Eq)
+    ∷ row "11010001iiiiiiii" (branch-if Ne)
+    ∷ row "11010010iiiiiiii" (branch-if Cs)
+    ∷ row "11010011iiiiiiii" (branch-if Cc)
+    ∷ row "11010100iiiiiiii" (branch-if Mi)
+    ∷ row "11010101iiiiiiii" (branch-if Pl)
+    ∷ row "11010110iiiiiiii" (branch-if Vs)
+    ∷ row "11010111iiiiiiii" (branch-if Vc)
+    ∷ row "11011000iiiiiiii" (branch-if Hi)
+    ∷ row "11011001iiiiiiii" (branch-if Ls)
+    ∷ row "11011010iiiiiiii" (branch-if Ge)
+    ∷ row "11011011iiiiiiii" (branch-if Lt)
+    ∷ row "11011100iiiiiiii" (branch-if Gt)
+    ∷ row "11011101iiiiiiii" (branch-if Le)
     ∷ row "11011110iiiiiiii" (λ f. Ok (System (Udf (f "i"))))
     ∷ row "11011111iiiiiiii" (λ f. Ok (System (Svc (f "i"))))
     ∷ row "11100iiiiiiiiiii" (λ f. Ok (Branch (B (branch-offset 12 (f "i")))))

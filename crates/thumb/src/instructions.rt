@@ -1,6 +1,7 @@
 //! The instructions of Armv6-M, by group, with their operands as the encodings give them.
 //!
 //! A register is its number: R0 to R12, 13 for SP, 14 for LR, 15 for PC. An offset is in bytes, and modulo 2^32.
+use word::Condition;
 
 /// An instruction, by group.
 #[derive(Clone, Copy)]
@@ -131,6 +132,7 @@ pub enum Multiple {
 #[derive(Clone, Copy)]
 pub enum Branch {
     B { offset: u32 },
+    If { condition: Condition, offset: u32 },
     Bl { offset: u32 },
     Bx { m: u8 },
     Blx { m: u8 },

@@ -15,6 +15,7 @@ use super::instructions::Special;
 use super::instructions::System;
 use super::instructions::Transfer;
 use super::instructions::Unary;
+use word::Condition;
 use word::field;
 use word::sign_extend;
 
@@ -204,17 +205,179 @@ fn offset(x: u32) -> Instruction
     requires { ⌜ 12 ≤ x / 2 ^ 11 ⌝ ∗ ⌜ x / 2 ^ 11 < 20 ⌝ }
     ensures { λ r. ⌜ Ok r ≡ decoded-narrow x ⌝ }
 {
-    let t = low(x, 0);
-    let n = low(x, 3);
-    let imm5 = field(x, 6, 5);
     match x >> 11 {
-        0b01100 => Instruction::Transfer { op: Transfer::Str, t, address: Address::Offset { n, imm: imm5 * 4 } },
-        0b01101 => Instruction::Transfer { op: Transfer::Ldr, t, address: Address::Offset { n, imm: imm5 * 4 } },
-        0b01110 => Instruction::Transfer { op: Transfer::Strb, t, address: Address::Offset { n, imm: imm5 } },
-        0b01111 => Instruction::Transfer { op: Transfer::Ldrb, t, address: Address::Offset { n, imm: imm5 } },
-        0b10000 => Instruction::Transfer { op: Transfer::Strh, t, address: Address::Offset { n, imm: imm5 * 2 } },
-        0b10001 => Instruction::Transfer { op: Transfer::Ldrh, t, address: Address::Offset { n, imm: imm5 * 2 } },
-        0b10010 => stacked(x, Transfer::Str),
-        _ => stacked(x, Transfer::Ldr),
+        0b01100 => beside(x, Transfer::Str, 4),
+        0b01101 => beside(x, Transfer::Ldr, 4),
+        0b01110 => beside(x, Transfer::Strb, 1),
+        0b01111 => beside(x, Transfer::Ldrb, 1),
+        0b10000 => beside(x, Transfer::Strh, 2),
+        0b10001 => beside(x, Transfer::Ldrh, 2),
+        0b10010 => beside_sp(x, Transfer::Str),
+        _ => beside_sp(x, Transfer::Ldr),
     }
+}
+
+/// A transfer at a multiple of `scale` above a low register.
+fn beside(x: u32, op: Transfer, scale: u32) -> Instruction
+    requires { ⌜ scale ≤ 4 ⌝ }
+    ensures { λ r. ⌜ r ≡ Instruction.Transfer op (x / 2 ^ 0 % 2 ^ 3) (Address.Offset (x / 2 ^ 3 % 2 ^ 3) (x / 2 ^ 6 % 2 ^ 5 * scale)) ⌝ }
+{
+    Instruction::Transfer { op, t: low(x, 0), address: Address::Offset { n: low(x, 3), imm: field(x, 6, 5) * scale } }
+}
+
+/// A transfer at a multiple of 4 above SP.
+fn beside_sp(x: u32, op: Transfer) -> Instruction
+    ensures { λ r. ⌜ r ≡ Instruction.Transfer op (x / 2 ^ 8 % 2 ^ 3) (Address.Offset 13 (x / 2 ^ 0 % 2 ^ 8 * 4)) ⌝ }
+{
+    Instruction::Transfer { op, t: low(x, 8), address: Address::Offset { n: 13, imm: field(x, 0, 8) * 4 } }
+}
+
+/// Sums with PC and SP: 1010xx.
+fn address(x: u32) -> Special
+    requires { ⌜ x / 2 ^ 12 ≡ 10 ⌝ }
+    ensures { λ r. ⌜ Ok (Instruction.Special r) ≡ decoded-narrow x ⌝ }
+{
+    let d = low(x, 8);
+    let imm = field(x, 0, 8) * 4;
+    match x >> 11 {
+        0b10100 => Special::Adr { d, imm },
+        _ => Special::AddSp { d, imm },
+    }
+}
+
+/// Miscellaneous 16-bit instructions: 1011xx.
+fn miscellaneous(x: u32) -> Result<Instruction, Refusal>
+    requires { ⌜ x / 2 ^ 12 ≡ 11 ⌝ }
+    ensures { λ r. ⌜ r ≡ decoded-narrow x ⌝ }
+{
+    match x >> 8 {
+        0b1011_0000 => Ok(Instruction::Special(adjust(x))),
+        0b1011_0010 => Ok(extend(x)),
+        0b1011_0100 | 0b1011_0101 => push(x),
+        0b1011_0110 => change_state(x),
+        0b1011_1010 => reverse(x),
+        0b1011_1100 | 0b1011_1101 => pop(x),
+        0b1011_1110 => Ok(Instruction::System(System::Bkpt { imm: field(x, 0, 8) })),
+        0b1011_1111 => hint(x),
+        _ => Err(Refusal::Undefined),
+    }
+}
+
+/// SP moved by a constant: 10110000.
+fn adjust(x: u32) -> Special
+    requires { ⌜ x / 2 ^ 8 ≡ 176 ⌝ }
+    ensures { λ r. ⌜ Ok (Instruction.Special r) ≡ decoded-narrow x ⌝ }
+{
+    let imm = field(x, 0, 7) * 4;
+    match x >> 7 {
+        0b1011_00000 => Special::RaiseSp { imm },
+        _ => Special::LowerSp { imm },
+    }
+}
+
+/// Extensions: 10110010.
+fn extend(x: u32) -> Instruction
+    requires { ⌜ x / 2 ^ 8 ≡ 178 ⌝ }
+    ensures { λ r. ⌜ Ok r ≡ decoded-narrow x ⌝ }
+{
+    let op = match x >> 6 {
+        0b1011_001000 => Unary::Sxth,
+        0b1011_001001 => Unary::Sxtb,
+        0b1011_001010 => Unary::Uxth,
+        _ => Unary::Uxtb,
+    };
+    Instruction::Unary { op, d: low(x, 0), m: low(x, 3) }
+}
+
+/// Reversals: 10111010.
+fn reverse(x: u32) -> Result<Instruction, Refusal>
+    requires { ⌜ x / 2 ^ 8 ≡ 186 ⌝ }
+    ensures { λ r. ⌜ r ≡ decoded-narrow x ⌝ }
+{
+    let op = match x >> 6 {
+        0b1011_101000 => Unary::Rev,
+        0b1011_101001 => Unary::Rev16,
+        0b1011_101010 => return Err(Refusal::Undefined),
+        _ => Unary::Revsh,
+    };
+    Ok(Instruction::Unary { op, d: low(x, 0), m: low(x, 3) })
+}
+
+/// PUSH: 1011010.
+fn push(x: u32) -> Result<Instruction, Refusal>
+    requires { ⌜ x / 2 ^ 9 ≡ 90 ⌝ }
+    ensures { λ r. ⌜ r ≡ decoded-narrow x ⌝ }
+{
+    let list = list(x);
+    let lr = field(x, 8, 1) == 1;
+    if list == 0 && !lr { Err(Refusal::Unpredictable) } else { Ok(Instruction::Multiple(Multiple::Push { list, lr })) }
+}
+
+/// POP: 1011110.
+fn pop(x: u32) -> Result<Instruction, Refusal>
+    requires { ⌜ x / 2 ^ 9 ≡ 94 ⌝ }
+    ensures { λ r. ⌜ r ≡ decoded-narrow x ⌝ }
+{
+    let list = list(x);
+    let pc = field(x, 8, 1) == 1;
+    if list == 0 && !pc { Err(Refusal::Unpredictable) } else { Ok(Instruction::Multiple(Multiple::Pop { list, pc })) }
+}
+
+/// CPS: 10110110.
+fn change_state(x: u32) -> Result<Instruction, Refusal>
+    requires { ⌜ x / 2 ^ 8 ≡ 182 ⌝ }
+    ensures { λ r. ⌜ r ≡ decoded-narrow x ⌝ }
+{
+    let disable = field(x, 4, 1) == 1;
+    if x >> 5 != 0b1011_0110_011 {
+        Err(Refusal::Undefined)
+    } else if field(x, 0, 4) != 0b0010 {
+        Err(Refusal::Unpredictable)
+    } else {
+        Ok(Instruction::System(System::Cps { disable }))
+    }
+}
+
+/// Hints: 10111111.
+fn hint(x: u32) -> Result<Instruction, Refusal>
+    requires { ⌜ x / 2 ^ 8 ≡ 191 ⌝ }
+    ensures { λ r. ⌜ r ≡ decoded-narrow x ⌝ }
+{
+    let number = field(x, 4, 4);
+    if field(x, 0, 4) == 0 { Ok(Instruction::System(System::Hint { number })) } else { Err(Refusal::Undefined) }
+}
+
+/// Store and load multiple registers: 1100xx.
+fn multiple(x: u32) -> Result<Instruction, Refusal>
+    requires { ⌜ x / 2 ^ 12 ≡ 12 ⌝ }
+    ensures { λ r. ⌜ r ≡ decoded-narrow x ⌝ }
+{
+    let n = low(x, 8);
+    let list = list(x);
+    match x >> 11 {
+        _ if list == 0 => Err(Refusal::Unpredictable),
+        0b11000 => Ok(Instruction::Multiple(Multiple::Stm { n, list })),
+        _ => Ok(Instruction::Multiple(Multiple::Ldm { n, list })),
+    }
+}
+
+/// Conditional branch, and Supervisor Call: 1101xx.
+fn conditional(x: u32) -> Instruction
+    requires { ⌜ x / 2 ^ 12 ≡ 13 ⌝ }
+    ensures { λ r. ⌜ Ok r ≡ decoded-narrow x ⌝ }
+{
+    let imm = field(x, 0, 8);
+    match Condition::from_number(field(x, 8, 4)) {
+        Some(condition) => Instruction::Branch(Branch::If { condition, offset: sign_extend(imm * 2, 9) }),
+        None if x >> 8 == 0b1101_1110 => Instruction::System(System::Udf { imm }),
+        None => Instruction::System(System::Svc { imm }),
+    }
+}
+
+/// Unconditional branch: 11100x.
+fn branch(x: u32) -> Branch
+    requires { ⌜ x / 2 ^ 11 ≡ 28 ⌝ }
+    ensures { λ r. ⌜ Ok (Instruction.Branch r) ≡ decoded-narrow x ⌝ }
+{
+    Branch::B { offset: sign_extend(field(x, 0, 11) * 2, 12) }
 }
