@@ -15,7 +15,7 @@ use Rattle.std.specs.declared.result.Result.the-variants.{Ok, Err}
 use Rattle.std.proofs.shelf.Ways.{tells}
 use Rattle.thumb.specs.Diagram.{Bits, bits-of, letter, agrees, spelled, size}
 use Rattle.thumb.specs.Rows.{Row, Answer, narrow-rows, wide-rows}
-use Rattle.thumb.specs.Decoded.{fits, answer, lookup, decoded-narrow}
+use Rattle.thumb.specs.Decoded.{fits, answer, lookup, decoded-narrow, decoded-wide}
 use Rattle.thumb.specs.declared.instructions.Refusal.{Refusal}
 use Rattle.thumb.specs.declared.instructions.Refusal.the-variants.{Undefined, Unpredictable}
 
@@ -176,3 +176,11 @@ settles rs ks x h e = e ∙ sym (found-at rs ks x h)
 pub by-prefix : (x k p : ℕ) → x / 2 ^ k ≡ p → {r : Answer} → r ≡ settled narrow-rows (above k p ∷ []) x
     → r ≡ decoded-narrow x
 by-prefix x k p h e = settles narrow-rows (above k p ∷ []) x (h, tt) e
+
+-- what the callers of the helpers of miscellaneous control know
+abbrev pub control : ℕ → List Fact
+control p = above 21 p ∷ slice 14 2 2 ∷ slice 12 1 0 ∷ []
+
+pub by-control : (x p : ℕ) → x / 2 ^ 21 ≡ p → x / 2 ^ 14 % 2 ^ 2 ≡ 2 → x / 2 ^ 12 % 2 ^ 1 ≡ 0 → {r : Answer}
+    → r ≡ settled wide-rows (control p) x → r ≡ decoded-wide x
+by-control x p h k l e = settles wide-rows (control p) x (h, (k, (l, tt))) e

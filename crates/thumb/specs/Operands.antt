@@ -27,11 +27,11 @@ link-offset s j1 j2 imm10 imm11 =
     branch-offset 25 ((((s * 2 + cond (eqb j1 s) 1 0) * 2 + cond (eqb j2 s) 1 0) * 2 ^ 10 + imm10) * 2 ^ 11 + imm11)
 
 -- the SYSm values of the special registers; the others are reserved
-unfoldable pub special-registers : List (ℕ × SpecialRegister)
+abbrev pub special-registers : List (ℕ × SpecialRegister)
 special-registers =
     (0, Apsr) ∷ (1, Iapsr) ∷ (2, Eapsr) ∷ (3, Xpsr) ∷ (5, Ipsr) ∷ (6, Epsr) ∷ (7, Iepsr) ∷ (8, Msp) ∷ (9, Psp)
     ∷ (16, Primask) ∷ (20, Control) ∷ []
 
-unfoldable pub listed : {A : Type 0} → List (ℕ × A) → ℕ → Option A
+abbrev pub listed : {A : Type 0} → List (ℕ × A) → ℕ → Option A
 listed [] n = None
 listed (e ∷ es) n = cond (eqb n (e .0)) (Some (e .1)) (listed es n)

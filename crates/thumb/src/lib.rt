@@ -1,4 +1,30 @@
 //! What a Thumb halfword, or two, means in Armv6-M.
+ghost use mathlib.Core.Path.{_≡_};
+ghost use Rattle.thumb.specs.Decoded.{decoded, wide-first};
 
 pub mod instructions;
 mod narrow;
+mod wide;
+
+use instructions::Instruction;
+use instructions::Refusal;
+use narrow::narrow;
+use wide::wide;
+
+/// Whether a second halfword belongs to this first one.
+pub fn is_wide(first: u16) -> bool
+    ensures { λ r. ⌜ r ≡ wide-first first ⌝ }
+{
+    first >> 11 >= 0b11101
+}
+
+/// The instruction that a first halfword encodes, with the second where that belongs to it.
+pub fn decode(first: u16, second: u16) -> Result<Instruction, Refusal>
+    ensures { λ r. ⌜ r ≡ decoded first second ⌝ }
+{
+    if is_wide(first) {
+        wide(u32::from(first) * 65536 + u32::from(second))
+    } else {
+        narrow(u32::from(first))
+    }
+}
