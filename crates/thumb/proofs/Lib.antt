@@ -1,2 +1,4 @@
 pub mod Settled
 pub mod Undefined
+pub mod Laws
+pub mod Stands

@@ -104,7 +104,7 @@ grown x j (p ∷ ps) = on (eqb (p .0 + p .1) j) refl
   where
     on : (b : Bool) → eqb (p .0 + p .1) j ≡ b
         → bits-of x j * 2 ^ total (p ∷ ps) + joined (p ∷ ps) x
-          ≡ joined (cond b ((p .0, 1 + p .1) ∷ ps) ((j, 1) ∷ p ∷ ps)) x
+        ≡ joined (cond b ((p .0, 1 + p .1) ∷ ps) ((j, 1) ∷ p ∷ ps)) x
     on false e = refl
     on true e = rw (← eqb-true _ _ e) (extended x p ps)
 
@@ -133,7 +133,7 @@ joins l (c ∷ d) x = on (eqb c l) (joins l d x)
   where
     on : (b : Bool) → spelled l d (bits-of x) ≡ joined (pieces l d) x
         → cond b (bits-of x (length d) * 2 ^ size l d + spelled l d (bits-of x)) (spelled l d (bits-of x))
-          ≡ joined (cond b (grow (length d) (pieces l d)) (pieces l d)) x
+        ≡ joined (cond b (grow (length d) (pieces l d)) (pieces l d)) x
     on false e = e
     on true e = rw (e, sized l d) (grown x (length d) (pieces l d))
 
@@ -154,7 +154,7 @@ finds [] b = refl
 finds (r ∷ rs) b =
     ap
     (cond (agrees (letter "0") (letter "1") (r .drawn) b)
-     (cond (agrees (letter "z") (letter "w") (r .drawn) b) (r .means (λ l. spelled (letter l) (r .drawn) b)) (Err Unpredictable)))
+    (cond (agrees (letter "z") (letter "w") (r .drawn) b) (r .means (λ l. spelled (letter l) (r .drawn) b)) (Err Unpredictable)))
     (finds rs b)
 
 found-at : (rs : List Row) (ks : List Fact) (x : ℕ) → Holds x ks → lookup rs (bits-of x) ≡ found rs (sight ks (bits-of x)) (fields x)

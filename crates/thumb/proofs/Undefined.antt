@@ -33,7 +33,7 @@ possibly ks x h [] e = refl
 possibly ks x h (c ∷ d) e =
     let parts = and-parts _ (agrees (letter "0") (letter "1") d (bits-of x)) e in
     let seen : (v : ℕ) → eqb (bits-of x (length d)) v ≡ true → eqb (sight ks (λ _. v) (length d)) v ≡ true =
-        λ v p. let q = eqb-true _ _ p in eq-eqb _ _ (sym (sees ks x h (λ _. v) (length d) q) ∙ q)
+    λ v p. let q = eqb-true _ _ p in eq-eqb _ _ (sym (sees ks x h (λ _. v) (length d) q) ∙ q)
     in
     and-from _ _ (on (eqb c (letter "0")) (eqb c (letter "1")) (seen 0) (seen 1) (parts .0)) (possibly ks x h d (parts .1))
   where

@@ -121,7 +121,7 @@ abbrev pub specials : List Row
 specials =
     row "01000100dmmmmddd" (λ f. unless (eqb (f "d") 15 && eqb (f "m") 15) (Special (special.Add (f "d") (f "m"))))
     ∷ row "01000101nmmmmnnn"
-      (λ f. unless ((ltb (f "n") 8 && ltb (f "m") 8) || (eqb (f "n") 15 || eqb (f "m") 15)) (Special (special.Cmp (f "n") (f "m"))))
+    (λ f. unless ((ltb (f "n") 8 && ltb (f "m") 8) || (eqb (f "n") 15 || eqb (f "m") 15)) (Special (special.Cmp (f "n") (f "m"))))
     ∷ row "01000110dmmmmddd" (λ f. Ok (Special (special.Mov (f "d") (f "m"))))
     ∷ row "010001110mmmmzzz" (λ f. unless (eqb (f "m") 15) (Branch (Bx (f "m"))))
     ∷ row "010001111mmmmzzz" (λ f. unless (eqb (f "m") 15) (Branch (Blx (f "m"))))
@@ -200,7 +200,7 @@ narrow-rows = basics ++ (operations ++ (specials ++ (transfers ++ (miscellanies 
 -- Branch and miscellaneous control
 unfoldable pub wide-rows : List Row
 wide-rows =
-    row "11110Shhhhhhhhhh11J1Klllllllllll" (λ f. Ok (Branch (Bl (link-offset (f "S") (f "J") (f "K") (f "h") (f "l")))))
+    row "11110Shhhhhhhhhh11J1Kiiiiiiiiiii" (λ f. Ok (Branch (Bl (link-offset (f "S") (f "J") (f "K") (f "h") (f "i")))))
     ∷ row "11110011100znnnn10z0wzzzssssssss" (λ f. special-access (f "n") (f "s") (λ s. Msr s (f "n")))
     ∷ row "11110011111zwwww10z0ddddssssssss" (λ f. special-access (f "d") (f "s") (λ s. Mrs (f "d") s))
     ∷ row "111100111011wwww10z0wwww0100oooo" (λ f. Ok (System (Dsb (f "o"))))

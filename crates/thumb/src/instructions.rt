@@ -1,6 +1,8 @@
 //! The instructions of Armv6-M, by group, with their operands as the encodings give them.
 //!
 //! A register is its number: R0 to R12, 13 for SP, 14 for LR, 15 for PC. An offset is in bytes, and modulo 2^32.
+ghost use mathlib.Core.Path.{_≡_};
+ghost use Rattle.thumb.specs.Refusals.{refusal-number};
 use word::Condition;
 
 /// An instruction, by group.
@@ -8,12 +10,24 @@ use word::Condition;
 pub enum Instruction {
     Basic(Basic),
     /// `dn = op(dn, m)` on low registers, with the flags; TST, CMP and CMN set the flags only.
-    Data { op: Operation, dn: u8, m: u8 },
+    Data {
+        op: Operation,
+        dn: u8,
+        m: u8,
+    },
     Special(Special),
     /// `d = op(m)`, no flags.
-    Unary { op: Unary, d: u8, m: u8 },
+    Unary {
+        op: Unary,
+        d: u8,
+        m: u8,
+    },
     /// A load or a store of `t`.
-    Transfer { op: Transfer, t: u8, address: Address },
+    Transfer {
+        op: Transfer,
+        t: u8,
+        address: Address,
+    },
     Multiple(Multiple),
     Branch(Branch),
     System(System),
@@ -179,4 +193,16 @@ pub enum SpecialRegister {
 pub enum Refusal {
     Undefined,
     Unpredictable,
+}
+
+impl Refusal {
+    /// The number that a fault bears for it.
+    pub fn number(self) -> u32
+        ensures { λ r. ⌜ r ≡ refusal-number self ⌝ }
+    {
+        match self {
+            Refusal::Undefined => 6,
+            Refusal::Unpredictable => 7,
+        }
+    }
 }

@@ -85,9 +85,21 @@ fn basic(x: u32) -> Basic
     let dn = low(x, 8);
     let imm = field(x, 0, 8);
     match x >> 11 {
-        0b00000 => if by == 0 { Basic::Mov { d, m } } else { Basic::Lsl { d, m, by } },
-        0b00001 => Basic::Lsr { d, m, by: shift_amount(by) },
-        0b00010 => Basic::Asr { d, m, by: shift_amount(by) },
+        0b00000 => if by == 0 {
+            Basic::Mov { d, m }
+        } else {
+            Basic::Lsl { d, m, by }
+        },
+        0b00001 => Basic::Lsr {
+            d,
+            m,
+            by: shift_amount(by),
+        },
+        0b00010 => Basic::Asr {
+            d,
+            m,
+            by: shift_amount(by),
+        },
         0b00011 => add_subtract(x),
         0b00100 => Basic::MovByte { d: dn, imm },
         0b00101 => Basic::CmpByte { n: dn, imm },
@@ -136,7 +148,11 @@ fn data(x: u32) -> Instruction
         0b010000_1110 => Operation::Bic,
         _ => Operation::Mvn,
     };
-    Instruction::Data { op, dn: low(x, 0), m: low(x, 3) }
+    Instruction::Data {
+        op,
+        dn: low(x, 0),
+        m: low(x, 3),
+    }
 }
 
 /// Special data instructions, and branch and exchange: 010001.
@@ -178,7 +194,9 @@ fn literal(x: u32) -> Instruction
     Instruction::Transfer {
         op: Transfer::Ldr,
         t: low(x, 8),
-        address: Address::Literal { imm: field(x, 0, 8) * 4 },
+        address: Address::Literal {
+            imm: field(x, 0, 8) * 4,
+        },
     }
 }
 
@@ -197,7 +215,14 @@ fn indexed(x: u32) -> Instruction
         0b0101_110 => Transfer::Ldrb,
         _ => Transfer::Ldrsh,
     };
-    Instruction::Transfer { op, t: low(x, 0), address: Address::Indexed { n: low(x, 3), m: low(x, 6) } }
+    Instruction::Transfer {
+        op,
+        t: low(x, 0),
+        address: Address::Indexed {
+            n: low(x, 3),
+            m: low(x, 6),
+        },
+    }
 }
 
 /// Loads and stores with an immediate offset: 011xxx and 100xxx.
@@ -222,14 +247,28 @@ fn beside(x: u32, op: Transfer, scale: u32) -> Instruction
     requires { ⌜ scale ≤ 4 ⌝ }
     ensures { λ r. ⌜ r ≡ Instruction.Transfer op (x / 2 ^ 0 % 2 ^ 3) (Address.Offset (x / 2 ^ 3 % 2 ^ 3) (x / 2 ^ 6 % 2 ^ 5 * scale)) ⌝ }
 {
-    Instruction::Transfer { op, t: low(x, 0), address: Address::Offset { n: low(x, 3), imm: field(x, 6, 5) * scale } }
+    Instruction::Transfer {
+        op,
+        t: low(x, 0),
+        address: Address::Offset {
+            n: low(x, 3),
+            imm: field(x, 6, 5) * scale,
+        },
+    }
 }
 
 /// A transfer at a multiple of 4 above SP.
 fn beside_sp(x: u32, op: Transfer) -> Instruction
     ensures { λ r. ⌜ r ≡ Instruction.Transfer op (x / 2 ^ 8 % 2 ^ 3) (Address.Offset 13 (x / 2 ^ 0 % 2 ^ 8 * 4)) ⌝ }
 {
-    Instruction::Transfer { op, t: low(x, 8), address: Address::Offset { n: 13, imm: field(x, 0, 8) * 4 } }
+    Instruction::Transfer {
+        op,
+        t: low(x, 8),
+        address: Address::Offset {
+            n: 13,
+            imm: field(x, 0, 8) * 4,
+        },
+    }
 }
 
 /// Sums with PC and SP: 1010xx.
@@ -257,7 +296,9 @@ fn miscellaneous(x: u32) -> Result<Instruction, Refusal>
         0b1011_0110 => change_state(x),
         0b1011_1010 => reverse(x),
         0b1011_1100 | 0b1011_1101 => pop(x),
-        0b1011_1110 => Ok(Instruction::System(System::Bkpt { imm: field(x, 0, 8) })),
+        0b1011_1110 => Ok(Instruction::System(System::Bkpt {
+            imm: field(x, 0, 8),
+        })),
         0b1011_1111 => hint(x),
         _ => Err(Refusal::Undefined),
     }
@@ -286,7 +327,11 @@ fn extend(x: u32) -> Instruction
         0b1011_001010 => Unary::Uxth,
         _ => Unary::Uxtb,
     };
-    Instruction::Unary { op, d: low(x, 0), m: low(x, 3) }
+    Instruction::Unary {
+        op,
+        d: low(x, 0),
+        m: low(x, 3),
+    }
 }
 
 /// Reversals: 10111010.
@@ -300,7 +345,11 @@ fn reverse(x: u32) -> Result<Instruction, Refusal>
         0b1011_101010 => return Err(Refusal::Undefined),
         _ => Unary::Revsh,
     };
-    Ok(Instruction::Unary { op, d: low(x, 0), m: low(x, 3) })
+    Ok(Instruction::Unary {
+        op,
+        d: low(x, 0),
+        m: low(x, 3),
+    })
 }
 
 /// PUSH: 1011010.
@@ -310,7 +359,11 @@ fn push(x: u32) -> Result<Instruction, Refusal>
 {
     let list = list(x);
     let lr = field(x, 8, 1) == 1;
-    if list == 0 && !lr { Err(Refusal::Unpredictable) } else { Ok(Instruction::Multiple(Multiple::Push { list, lr })) }
+    if list == 0 && !lr {
+        Err(Refusal::Unpredictable)
+    } else {
+        Ok(Instruction::Multiple(Multiple::Push { list, lr }))
+    }
 }
 
 /// POP: 1011110.
@@ -320,7 +373,11 @@ fn pop(x: u32) -> Result<Instruction, Refusal>
 {
     let list = list(x);
     let pc = field(x, 8, 1) == 1;
-    if list == 0 && !pc { Err(Refusal::Unpredictable) } else { Ok(Instruction::Multiple(Multiple::Pop { list, pc })) }
+    if list == 0 && !pc {
+        Err(Refusal::Unpredictable)
+    } else {
+        Ok(Instruction::Multiple(Multiple::Pop { list, pc }))
+    }
 }
 
 /// CPS: 10110110.
@@ -344,7 +401,11 @@ fn hint(x: u32) -> Result<Instruction, Refusal>
     ensures { λ r. ⌜ r ≡ decoded-narrow x ⌝ }
 {
     let number = field(x, 4, 4);
-    if field(x, 0, 4) == 0 { Ok(Instruction::System(System::Hint { number })) } else { Err(Refusal::Undefined) }
+    if field(x, 0, 4) == 0 {
+        Ok(Instruction::System(System::Hint { number }))
+    } else {
+        Err(Refusal::Undefined)
+    }
 }
 
 /// Store and load multiple registers: 1100xx.
@@ -368,7 +429,10 @@ fn conditional(x: u32) -> Instruction
 {
     let imm = field(x, 0, 8);
     match Condition::from_number(field(x, 8, 4)) {
-        Some(condition) => Instruction::Branch(Branch::If { condition, offset: sign_extend(imm * 2, 9) }),
+        Some(condition) => Instruction::Branch(Branch::If {
+            condition,
+            offset: sign_extend(imm * 2, 9),
+        }),
         None if x >> 8 == 0b1101_1110 => Instruction::System(System::Udf { imm }),
         None => Instruction::System(System::Svc { imm }),
     }
@@ -379,5 +443,7 @@ fn branch(x: u32) -> Branch
     requires { ⌜ x / 2 ^ 11 ≡ 28 ⌝ }
     ensures { λ r. ⌜ Ok (Instruction.Branch r) ≡ decoded-narrow x ⌝ }
 {
-    Branch::B { offset: sign_extend(field(x, 0, 11) * 2, 12) }
+    Branch::B {
+        offset: sign_extend(field(x, 0, 11) * 2, 12),
+    }
 }

@@ -44,7 +44,9 @@ fn link(x: u32) -> Branch
     let i1 = same(field(x, 13, 1), s);
     let i2 = same(field(x, 11, 1), s);
     let imm = (((s * 2 + i1) * 2 + i2) * 1024 + field(x, 16, 10)) * 2048 + field(x, 0, 11);
-    Branch::Bl { offset: sign_extend(imm * 2, 25) }
+    Branch::Bl {
+        offset: sign_extend(imm * 2, 25),
+    }
 }
 
 /// Moves to and from special registers, barriers and UDF.
@@ -129,7 +131,11 @@ fn barrier(x: u32) -> Result<Instruction, Refusal>
         0b0110 => System::Isb { option },
         _ => return Err(Refusal::Undefined),
     };
-    if proper { Ok(Instruction::System(barrier)) } else { Err(Refusal::Unpredictable) }
+    if proper {
+        Ok(Instruction::System(barrier))
+    } else {
+        Err(Refusal::Unpredictable)
+    }
 }
 
 /// UDF, encoding T2.

@@ -9,7 +9,8 @@ returns-in-746 c = by-prefix (c .args .x) 6 746 (c .in-746 .is) (cc)
 pub returns : need.returns
 unfolding settled
 returns c =
-    elim (c .match-x-shr6 .came)
-    [ need.in-744 w ↦ by-prefix (c .args .x) 6 744 (omega arith) (cc)
-    | need.in-745 w ↦ by-prefix (c .args .x) 6 745 (omega arith) (cc)
-    | need.in-rest w ↦ by-prefix (c .args .x) 6 747 (omega arith) (cc) ]
+    elim (c .match-x-shr6 .came) [
+      | need.in-744 w ↦ by-prefix (c .args .x) 6 744 (omega arith) (cc)
+      | need.in-745 w ↦ by-prefix (c .args .x) 6 745 (omega arith) (cc)
+      | need.in-rest w ↦ by-prefix (c .args .x) 6 747 (omega arith) (cc)
+    ]

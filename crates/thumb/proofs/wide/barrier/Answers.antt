@@ -29,15 +29,17 @@ returns-in-rest c =
 pub returns-then-proper : need.returns-then-proper
 unfolding settled
 returns-then-proper c = let u = upper (c .args .x) (c .field-2 .result) (c .pre .0) (c .field-2 .ensures) (c .if-field-eq0-2 .left) in
-    elim (c .match-field .came)
-    [ need.in-4 w ↦ settles wide-rows (slice 4 4 4 ∷ known) (c .args .x) (omega arith, (u, (c .pre .1 .0, (c .pre .1 .1, tt)))) (grind (arith, tells))
-    | need.in-5 w ↦ settles wide-rows (slice 4 4 5 ∷ known) (c .args .x) (omega arith, (u, (c .pre .1 .0, (c .pre .1 .1, tt)))) (grind (arith, tells))
-    | need.in-6 w ↦ settles wide-rows (slice 4 4 6 ∷ known) (c .args .x) (omega arith, (u, (c .pre .1 .0, (c .pre .1 .1, tt)))) (grind (arith, tells)) ]
+    elim (c .match-field .came) [
+      | need.in-4 w ↦ settles wide-rows (slice 4 4 4 ∷ known) (c .args .x) (omega arith, (u, (c .pre .1 .0, (c .pre .1 .1, tt)))) (grind (arith, tells))
+      | need.in-5 w ↦ settles wide-rows (slice 4 4 5 ∷ known) (c .args .x) (omega arith, (u, (c .pre .1 .0, (c .pre .1 .1, tt)))) (grind (arith, tells))
+      | need.in-6 w ↦ settles wide-rows (slice 4 4 6 ∷ known) (c .args .x) (omega arith, (u, (c .pre .1 .0, (c .pre .1 .1, tt)))) (grind (arith, tells))
+    ]
 
 pub returns-else-proper : need.returns-else-proper
 unfolding settled
 returns-else-proper c = let u = upper (c .args .x) (c .field-2 .result) (c .pre .0) (c .field-2 .ensures) (c .if-field-eq0-2 .left) in
-    elim (c .match-field .came)
-    [ need.in-4 w ↦ settles wide-rows (slice 4 4 4 ∷ known) (c .args .x) (omega arith, (u, (c .pre .1 .0, (c .pre .1 .1, tt)))) (grind (arith, tells))
-    | need.in-5 w ↦ settles wide-rows (slice 4 4 5 ∷ known) (c .args .x) (omega arith, (u, (c .pre .1 .0, (c .pre .1 .1, tt)))) (grind (arith, tells))
-    | need.in-6 w ↦ settles wide-rows (slice 4 4 6 ∷ known) (c .args .x) (omega arith, (u, (c .pre .1 .0, (c .pre .1 .1, tt)))) (grind (arith, tells)) ]
+    elim (c .match-field .came) [
+      | need.in-4 w ↦ settles wide-rows (slice 4 4 4 ∷ known) (c .args .x) (omega arith, (u, (c .pre .1 .0, (c .pre .1 .1, tt)))) (grind (arith, tells))
+      | need.in-5 w ↦ settles wide-rows (slice 4 4 5 ∷ known) (c .args .x) (omega arith, (u, (c .pre .1 .0, (c .pre .1 .1, tt)))) (grind (arith, tells))
+      | need.in-6 w ↦ settles wide-rows (slice 4 4 6 ∷ known) (c .args .x) (omega arith, (u, (c .pre .1 .0, (c .pre .1 .1, tt)))) (grind (arith, tells))
+    ]
