@@ -3,6 +3,7 @@ ghost use mathlib.Core.Path.{_≡_};
 ghost use Prim.Native.Nat.{_+_, _%_, _^_};
 ghost use Rattle.word.specs.Addresses.{align-to};
 
+pub mod image;
 mod names;
 
 use names::List;
