@@ -18,9 +18,9 @@ abbrev pub piece-at : List ℕ → ℕ → Option Piece
 piece-at image i =
     cond (ltb (i + 1) (length image))
     (Some
-     (cond (wide-first (halfword-at image i))
-      (cond (ltb (i + 3) (length image)) (Wide (halfword-at image i) (halfword-at image (i + 2))) (Cut (halfword-at image i)))
-      (Narrow (halfword-at image i))))
+    (cond (wide-first (halfword-at image i))
+    (cond (ltb (i + 3) (length image)) (Wide (halfword-at image i) (halfword-at image (i + 2))) (Cut (halfword-at image i)))
+    (Narrow (halfword-at image i))))
     (cond (ltb i (length image)) (Some (Odd (getD image i 0))) None)
 
 -- how many bytes a piece has

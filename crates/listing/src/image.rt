@@ -14,7 +14,7 @@ use thumb::is_wide;
 
 /// What stands at a place of an image.
 #[derive(Clone, Copy)]
-pub enum Piece {
+enum Piece {
     Narrow(u16),
     Wide(u16, u16),
     /// A first halfword whose second lies beyond the end.
@@ -25,7 +25,7 @@ pub enum Piece {
 
 impl Piece {
     /// How many bytes it has.
-    pub fn length(self) -> usize
+    fn length(self) -> usize
         ensures { λ r. ⌜ r ≡ piece-length self ⌝ }
     {
         match self {
@@ -46,7 +46,7 @@ fn halfword(image: &[u8], i: usize) -> u16
 }
 
 /// What begins at byte `i`; nothing from the end on.
-pub fn piece_at(image: &[u8], i: usize) -> Option<Piece>
+fn piece_at(image: &[u8], i: usize) -> Option<Piece>
     ensures value { λ r. ⌜ r ≡ piece-at (now (image .entry)) i ⌝ }
     ensures within { λ r. ⌜ Cases r (length (now (image .entry)) ≤ i) (λ p. (0 < piece-length p) × (i + piece-length p ≤ length (now (image .entry)))) ⌝ }
 {
@@ -70,12 +70,12 @@ pub fn piece_at(image: &[u8], i: usize) -> Option<Piece>
 
 /// A piece at its address, as a line of a listing.
 #[derive(Clone, Copy)]
-pub struct Line {
-    pub address: u32,
-    pub piece: Piece,
+struct Line {
+    address: u32,
+    piece: Piece,
 }
 
-pub impl fmt::Display for Line as LineDisplay {
+impl fmt::Display for Line as LineDisplay {
     fn fmt<W: fmt::Write>(&self, f: &mut fmt::Formatter<W>) -> fmt::Result {
         let address = self.address;
         write!(f, "{address:8x}: ")?;
@@ -95,10 +95,18 @@ pub impl fmt::Display for Line as LineDisplay {
 }
 
 /// The text of an encoding, or why it is refused.
-fn meaning<W: fmt::Write>(address: u32, first: u16, second: u16, f: &mut fmt::Formatter<W>) -> fmt::Result {
+fn meaning<W: fmt::Write>(
+    address: u32,
+    first: u16,
+    second: u16,
+    f: &mut fmt::Formatter<W>,
+) -> fmt::Result {
     match decode(first, second) {
         Ok(instruction) => {
-            let listing = Listing { address, instruction };
+            let listing = Listing {
+                address,
+                instruction,
+            };
             write!(f, "{listing}")
         }
         Err(Refusal::Undefined) => write!(f, "undefined"),

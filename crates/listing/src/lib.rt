@@ -3,9 +3,10 @@ ghost use mathlib.Core.Path.{_≡_};
 ghost use Prim.Native.Nat.{_+_, _%_, _^_};
 ghost use Rattle.word.specs.Addresses.{align-to};
 
-pub mod image;
+mod image;
 mod names;
 
+pub use image::print_image;
 use names::List;
 use names::ListDisplay;
 use names::Register;
@@ -77,7 +78,13 @@ fn three<W: fmt::Write>(name: &str, d: u8, n: u8, m: u8, f: &mut fmt::Formatter<
 }
 
 /// A mnemonic, two registers and a constant.
-fn two_and<W: fmt::Write>(name: &str, d: u8, n: u8, imm: u32, f: &mut fmt::Formatter<W>) -> fmt::Result {
+fn two_and<W: fmt::Write>(
+    name: &str,
+    d: u8,
+    n: u8,
+    imm: u32,
+    f: &mut fmt::Formatter<W>,
+) -> fmt::Result {
     two(name, d, n, f)?;
     write!(f, ", #{imm}")
 }
@@ -145,21 +152,37 @@ fn multiple<W: fmt::Write>(i: Multiple, f: &mut fmt::Formatter<W>) -> fmt::Resul
     match i {
         Multiple::Stm { n, list } => {
             let n = Register(n);
-            let list = List { low: list, extra: None };
+            let list = List {
+                low: list,
+                extra: None,
+            };
             write!(f, "stmia {n}!, {list}")
         }
         Multiple::Ldm { n, list } => {
-            let back = if word::bit(u32::from(list), u32::from(n)) { "" } else { "!" };
+            let back = if word::bit(u32::from(list), u32::from(n)) {
+                ""
+            } else {
+                "!"
+            };
             let n = Register(n);
-            let list = List { low: list, extra: None };
+            let list = List {
+                low: list,
+                extra: None,
+            };
             write!(f, "ldmia {n}{back}, {list}")
         }
         Multiple::Push { list, lr } => {
-            let list = List { low: list, extra: if lr { Some(14) } else { None } };
+            let list = List {
+                low: list,
+                extra: if lr { Some(14) } else { None },
+            };
             write!(f, "push {list}")
         }
         Multiple::Pop { list, pc } => {
-            let list = List { low: list, extra: if pc { Some(15) } else { None } };
+            let list = List {
+                low: list,
+                extra: if pc { Some(15) } else { None },
+            };
             write!(f, "pop {list}")
         }
     }
@@ -197,7 +220,11 @@ fn system<W: fmt::Write>(i: System, f: &mut fmt::Formatter<W>) -> fmt::Result {
         System::Bkpt { imm } => write!(f, "bkpt 0x{imm:04x}"),
         System::Udf { imm } => write!(f, "udf #{imm}"),
         System::UdfWide { imm } => write!(f, "udf.w #{imm}"),
-        System::Cps { disable } => if disable { write!(f, "cpsid i") } else { write!(f, "cpsie i") },
+        System::Cps { disable } => if disable {
+            write!(f, "cpsid i")
+        } else {
+            write!(f, "cpsie i")
+        },
         System::Hint { number } => hint(number, f),
         System::Dsb { option } => barrier("dsb", option, f),
         System::Dmb { option } => barrier("dmb", option, f),
@@ -228,5 +255,9 @@ fn hint<W: fmt::Write>(number: u32, f: &mut fmt::Formatter<W>) -> fmt::Result {
 
 /// A barrier; the options but 15 are reserved, and have no names.
 fn barrier<W: fmt::Write>(name: &str, option: u32, f: &mut fmt::Formatter<W>) -> fmt::Result {
-    if option == 15 { write!(f, "{name} sy") } else { write!(f, "{name} #{option}") }
+    if option == 15 {
+        write!(f, "{name} sy")
+    } else {
+        write!(f, "{name} #{option}")
+    }
 }

@@ -6,13 +6,16 @@ use thumb::instructions::Transfer;
 use thumb::instructions::Unary;
 use word::Condition;
 
-/// A register by its number.
+/// A register by its number, under the name that objdump gives it.
 #[derive(Clone, Copy)]
 pub struct Register(pub u8);
 
 pub impl fmt::Display for Register as RegisterDisplay {
     fn fmt<W: fmt::Write>(&self, f: &mut fmt::Formatter<W>) -> fmt::Result {
         match self.0 {
+            10 => write!(f, "sl"),
+            11 => write!(f, "fp"),
+            12 => write!(f, "ip"),
             13 => write!(f, "sp"),
             14 => write!(f, "lr"),
             15 => write!(f, "pc"),
@@ -49,7 +52,11 @@ pub impl fmt::Display for List as ListDisplay {
 /// A register of a list, with a comma unless it is the first.
 fn part<W: fmt::Write>(n: u8, first: bool, f: &mut fmt::Formatter<W>) -> fmt::Result {
     let register = Register(n);
-    if first { write!(f, "{register}") } else { write!(f, ", {register}") }
+    if first {
+        write!(f, "{register}")
+    } else {
+        write!(f, ", {register}")
+    }
 }
 
 /// The mnemonic of a data processing instruction.
