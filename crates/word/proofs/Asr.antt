@@ -1,5 +1,5 @@
 -- ASR_C, as a shift of signed words gives it.
-use Prim.Native.Nat.{ℕ, suc, _+_, _-_, _*_, _/_, _%_, _^_, _≤_, _<_, min}
+use Prim.Native.Nat.{ℕ, suc, _+_, _-_, _*_, _/_, _^_, _≤_, _<_, min}
 use lib.Dec.{ltb}
 use lib.Pow.{pow-mono, shr-le}
 use lib.Signed.{shrZ}

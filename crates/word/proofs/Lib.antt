@@ -1,9 +1,11 @@
-pub mod Adding
 pub mod Asr
-pub mod Bitwise
 pub mod Comparing
+pub mod EachBit
+pub mod Lowest
 pub mod Members
 pub mod Moves
+pub mod Overflow
+pub mod Product
 pub mod Rotate
 pub mod ShiftLaw
 pub mod Signs

@@ -1,8 +1,8 @@
 -- One bit put into a word, or taken out of it.
-use Prim.Native.Nat.{ℕ, zero, suc, _+_, _-_, _*_, _/_, _%_, _^_, _≤_, _<_, min}
+use Prim.Native.Nat.{ℕ, zero, suc, _+_, _-_, _*_, _/_, _%_, _^_, _≤_, _<_}
 use lib.Bits.{bitAnd, bitOr, and-high, and-step, and-zero-r, or-add-and, or-zero-r}
 use lib.Count.{ones, ones-cat, ones-step}
-use lib.Dec.{eqb, leb, ltb}
+use lib.Dec.{eqb, ltb}
 use lib.Pow.{high, pow-add, pow-lt, pow-pos, split}
 use mathlib.Core.Bool.{Bool, true, false, cond, not, _&&_, _||_}
 use mathlib.Core.Logic.{inl, inr}
@@ -10,12 +10,11 @@ use mathlib.Core.Path.{_≡_, refl, ap, sym, _∙_}
 use native.Mathlib.Nat.{add-mul, add-zero, mod-eq-of-lt, mod-lt, one-mul, two-pow-succ}
 use native.Mathlib.Omega.{arith}
 use Rattle.std.proofs.shelf.Ways.{leb-tells, tells}
-use Rattle.word.proofs.Bitwise.{bit-and, bit-not, bit-or}
+use Rattle.word.proofs.EachBit.{bit-or}
 use Rattle.word.proofs.Moves.{bit-shl, shl-past}
 use Rattle.word.proofs.Widths.{none-above}
 use Rattle.word.specs.Fields.{bit-of}
-use Rattle.word.specs.Sets.{set-with, set-without}
-use Rattle.word.specs.Sums.{one-if}
+use Rattle.word.specs.Sets.{Added, Mask, Removed, set-with, set-without}
 
 lone : (m : ℕ) → bit-of 1 m ≡ eqb m 0
 lone zero = refl
@@ -49,10 +48,11 @@ ones-more x k e =
     let new : ones (x + 2 ^ k) ≡ ones (q + 1) + ones r = rw sum at (ones-cat k (q + 1) r below) in
     omega (arith, old, new, ones-step q, ones-step (q + 1), ap ones same)
 
+or-one : (x k : ℕ) → bitOr x (2 ^ k) ≡ cond (bit-of x k) x (x + 2 ^ k)
+or-one x k = grind (arith, tells, or-add-and x (2 ^ k), and-one x k)
+
 bit-more : (x k : ℕ) → bit-of x k ≡ false → (j : ℕ) → bit-of (x + 2 ^ k) j ≡ (bit-of x j || eqb j k)
-bit-more x k e j =
-    let sum : bitOr x (2 ^ k) ≡ x + 2 ^ k = grind (arith, tells, or-add-and x (2 ^ k), and-one x k) in
-    (rw (sum, bit-one) at (bit-or x (2 ^ k) j))
+bit-more x k e j = rw (or-one x k, e, bit-one) at (bit-or x (2 ^ k) j)
 
 -- a bit that is taken away was there, and is clear after
 taken : (x k : ℕ) → bit-of x k ≡ true → (x - 2 ^ k + 2 ^ k ≡ x) × (bit-of (x - 2 ^ k) k ≡ false)
@@ -63,48 +63,59 @@ taken x k e =
     let rest : x - 2 ^ k ≡ p * 2 ^ k + x % 2 ^ k = omega (arith, split x k, add-mul p 1 (2 ^ k), up) in
     (omega (arith, split x k, add-mul p 1 (2 ^ k), up), rw (rest, high p k (mod-lt x (pow-pos k))) (grind (arith, tells)))
 
-pub single-none : (w k : ℕ) → w ≤ k → 2 ^ k % 2 ^ w ≡ 0
-single-none w k p = rw one-mul at (shl-past 1 w k p)
+pub mask-none : (w k : ℕ) → w ≤ k → 2 ^ k % 2 ^ w ≡ 0
+mask-none w k p = rw one-mul at (shl-past 1 w k p)
 
-single-some : (w k : ℕ) → k < w → 2 ^ k % 2 ^ w ≡ 2 ^ k
-single-some w k p = mod-eq-of-lt (pow-lt p)
+mask-some : (w k : ℕ) → k < w → 2 ^ k % 2 ^ w ≡ 2 ^ k
+mask-some w k p = mod-eq-of-lt (pow-lt p)
 
 -- as a word of w bits computes them
 module _ (w x k : ℕ) (h : x < 2 ^ w) where
-  pub with-is : bitOr x (2 ^ k % 2 ^ w) ≡ set-with w x k
+  has-is : not (eqb (bitAnd x (2 ^ k % 2 ^ w)) 0) ≡ bit-of x k
+  has-is = elim (leb-tells w k) [
+    | inl p ↦ rw (mask-none w k (p .1), and-zero-r, none-above x w k h (p .1))
+    | inr p ↦ rw (mask-some w k (p .1), and-one) (grind (arith, tells, pow-pos k))
+  ]
+
+  with-is : bitOr x (2 ^ k % 2 ^ w) ≡ set-with w x k
   with-is = elim (leb-tells w k) [
-    | inl p ↦ rw (single-none w k (p .1), or-zero-r) (grind (arith, tells, p .1))
-    | inr p ↦ rw (single-some w k (p .1)) (grind (arith, tells, p .1, or-add-and x (2 ^ k), and-one x k))
+    | inl p ↦ rw (mask-none w k (p .1), or-zero-r) (grind (arith, tells, p .1))
+    | inr p ↦ rw (mask-some w k (p .1), or-one) (grind (arith, tells, p .1))
   ]
 
-  pub without-is : bitAnd x (2 ^ w - 1 - 2 ^ k % 2 ^ w) ≡ set-without x k
+  without-is : bitAnd x (2 ^ w - 1 - 2 ^ k % 2 ^ w) ≡ set-without x k
   without-is = elim (leb-tells w k) [
-    | inl p ↦ rw (single-none w k (p .1)) (grind (arith, tells, none-above x w k h (p .1), parts w x 0 h (pow-pos w), and-zero-r x))
-    | inr p ↦ rw (single-some w k (p .1)) (grind (arith, tells, parts w x (2 ^ k) h (pow-lt (p .1)), and-one x k))
+    | inl p ↦ rw (mask-none w k (p .1)) (grind (arith, tells, none-above x w k h (p .1), parts w x 0 h (pow-pos w), and-zero-r x))
+    | inr p ↦ rw (mask-some w k (p .1)) (grind (arith, tells, parts w x (2 ^ k) h (pow-lt (p .1)), and-one x k))
   ]
 
-module _ (w x k : ℕ) where
-  by-room : (b : Bool) → (ltb k w && not (bit-of x k)) ≡ b →
-      (ones (cond b (x + 2 ^ k) x) ≡ ones x + one-if b) × ((j : ℕ) → bit-of (cond b (x + 2 ^ k) x) j ≡ (bit-of x j || (eqb j k && ltb j w)))
-  by-room true e = (ones-more x k (grind (arith, tells)), λ j. bit-more x k (grind (arith, tells)) j ∙ grind (arith, tells))
-  by-room false e = (sym (add-zero (ones x)), λ j. grind (arith, tells))
+added : (w x k : ℕ) → Added w x k (set-with w x k)
+added w x k = by-room (ltb k w && not (bit-of x k)) refl
+  where
+    by-room : (b : Bool) → (ltb k w && not (bit-of x k)) ≡ b → Added w x k (cond b (x + 2 ^ k) x)
+    by-room true e = record {
+      value = rw e;
+      members = λ j. bit-more x k (grind (arith, tells)) j ∙ grind (arith, tells);
+      count = rw e (ones-more x k (grind (arith, tells)));
+    }
+    by-room false e = record { value = rw e; members = λ j. grind (arith, tells); count = rw (e, add-zero) }
 
-  pub with-count : ones (set-with w x k) ≡ ones x + one-if (ltb k w && not (bit-of x k))
-  with-count = by-room (ltb k w && not (bit-of x k)) refl .0
+removed : (x k : ℕ) → Removed x k (set-without x k)
+removed x k = by-bit (bit-of x k) refl
+  where
+    by-bit : (b : Bool) → bit-of x k ≡ b → Removed x k (cond b (x - 2 ^ k) x)
+    by-bit true e =
+        let t = taken x k e in
+        record {
+          value = rw e;
+          members = λ j. grind (arith, tells, rw (t .0) at (bit-more (x - 2 ^ k) k (t .1) j), t .1);
+          count = rw e (sym (rw (t .0) at (ones-more (x - 2 ^ k) k (t .1))));
+        }
+    by-bit false e = record { value = rw e; members = λ j. grind (arith, tells); count = rw (e, add-zero) }
 
-  pub with-members : (j : ℕ) → bit-of (set-with w x k) j ≡ (bit-of x j || (eqb j k && ltb j w))
-  with-members = by-room (ltb k w && not (bit-of x k)) refl .1
-
-module _ (x k : ℕ) where
-  by-bit : (b : Bool) → bit-of x k ≡ b →
-      (ones (cond b (x - 2 ^ k) x) + one-if b ≡ ones x) × ((j : ℕ) → bit-of (cond b (x - 2 ^ k) x) j ≡ (bit-of x j && not (eqb j k)))
-  by-bit true e =
-      let t = taken x k e in
-      (sym (rw (t .0) at (ones-more (x - 2 ^ k) k (t .1))), λ j. grind (arith, tells, rw (t .0) at (bit-more (x - 2 ^ k) k (t .1) j), t .1))
-  by-bit false e = (add-zero (ones x), λ j. grind (arith, tells))
-
-  pub without-count : ones (set-without x k) + one-if (bit-of x k) ≡ ones x
-  without-count = by-bit (bit-of x k) refl .0
-
-  pub without-members : (j : ℕ) → bit-of (set-without x k) j ≡ (bit-of x j && not (eqb j k))
-  without-members = by-bit (bit-of x k) refl .1
+pub mask-is : (w k : ℕ) → Mask w k (2 ^ k % 2 ^ w)
+mask-is w k = record {
+  tests = λ x h. has-is w x k h;
+  adds = λ x h. rw (with-is w x k h) (added w x k);
+  removes = λ x h. rw (without-is w x k h) (removed x k);
+}

@@ -1,16 +1,15 @@
 -- Where the bits of a word go when it is moved, cut or extended.
 use Prim.Native.Nat.{ℕ, suc, _+_, _-_, _*_, _/_, _%_, _^_, _≤_, _<_, min}
 use lib.Bits.{shifted-even}
-use lib.Dec.{eqb, leb, ltb}
+use lib.Dec.{leb}
 use lib.Pow.{field, high, mod-mod-pow, pow-add, pow-pos, shl-shr, shr-shr, low}
-use mathlib.Core.Bool.{Bool, true, false, cond, _&&_, _||_}
+use mathlib.Core.Bool.{Bool, true, false, _&&_}
 use mathlib.Core.Logic.{inl, inr}
-use mathlib.Core.Path.{_≡_, refl, ap, sym, _∙_}
+use mathlib.Core.Path.{_≡_, sym, _∙_}
 use native.Mathlib.Nat.{add-comm, mul-assoc, mul-mod-left, sub-zero, zero-div}
 use native.Mathlib.Omega.{arith}
-use Rattle.std.proofs.shelf.Ways.{leb-tells, tells}
-use Rattle.word.proofs.Bitwise.{bit-not}
-use Rattle.word.proofs.Widths.{none-above}
+use Rattle.std.proofs.shelf.Ways.{leb-tells}
+use Rattle.word.proofs.EachBit.{bit-not}
 use Rattle.word.specs.Extend.{replicate, sign-extend}
 use Rattle.word.specs.Fields.{bit-of}
 
@@ -38,13 +37,13 @@ bit-shl x n k = elim (leb-tells n k) [
   | inr p ↦ let e : suc (n - k - 1) + k ≡ n = omega (arith, p .1) in rw (p .0) (rw e at (shl-under x (n - k - 1) k))
 ]
 
-pub bit-above : (r w x k : ℕ) → x < 2 ^ w → bit-of (r * 2 ^ w + x) (w + k) ≡ bit-of r k
+bit-above : (r w x k : ℕ) → x < 2 ^ w → bit-of (r * 2 ^ w + x) (w + k) ≡ bit-of r k
 bit-above r w x k h = rw (← shr-shr (r * 2 ^ w + x) w k, high r w h)
 
-pub bit-below : (r w x k : ℕ) → x < 2 ^ w → k < w → bit-of (r * 2 ^ w + x) k ≡ bit-of x k
+bit-below : (r w x k : ℕ) → x < 2 ^ w → k < w → bit-of (r * 2 ^ w + x) k ≡ bit-of x k
 bit-below r w x k h less = sym (bit-cut (r * 2 ^ w + x) w k less) ∙ rw (low r w h)
 
-pub bit-replicate : (b : Bool) (n k : ℕ) → k < n → bit-of (replicate b n) k ≡ b
+bit-replicate : (b : Bool) (n k : ℕ) → k < n → bit-of (replicate b n) k ≡ b
 bit-replicate true n k h = rw (sub-zero, zero-div) at (bit-not 0 n k (pow-pos n) h)
 bit-replicate false n k h = rw zero-div
 

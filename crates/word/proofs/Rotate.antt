@@ -1,15 +1,15 @@
 -- ROR_C: as `rotate_right` gives it, and where the bits go.
-use Prim.Native.Nat.{ℕ, zero, suc, _+_, _-_, _*_, _/_, _%_, _^_, _≤_, _<_}
+use Prim.Native.Nat.{ℕ, zero, suc, _+_, _-_, _*_, _/_, _%_, _^_, _<_}
 use lib.Bits.{bitOr, or-self, or-zero-r}
 use lib.Dec.{leb}
 use lib.Pow.{shr-le}
-use mathlib.Core.Bool.{or-false, _&&_, _||_}
+use mathlib.Core.Bool.{or-false, _&&_}
 use mathlib.Core.Logic.{inl, inr}
-use mathlib.Core.Path.{_≡_, ap, sym, _∙_}
+use mathlib.Core.Path.{_≡_, _∙_}
 use native.Mathlib.Nat.{div-one, mod-eq-of-lt, mul-mod-left, mul-one}
 use native.Mathlib.Omega.{arith}
 use Rattle.std.proofs.shelf.Ways.{leb-tells}
-use Rattle.word.proofs.Bitwise.{bit-or}
+use Rattle.word.proofs.EachBit.{bit-or}
 use Rattle.word.proofs.Moves.{bit-cut, bit-shl, bit-shr}
 use Rattle.word.proofs.Widths.{none-above}
 use Rattle.word.specs.Fields.{bit-of, field-of}

@@ -1,6 +1,6 @@
 -- Where each bit of a shifted word comes from.
 use Prim.Native.Nat.{ℕ, _+_, _*_, _^_, _<_}
-use mathlib.Core.Path.{_≡_, ap, _∙_}
+use mathlib.Core.Path.{_≡_, _∙_}
 use native.Mathlib.Nat.{div-one}
 use native.Mathlib.Omega.{arith}
 use Rattle.word.proofs.Moves.{bit-cut, bit-extend, bit-shl, bit-shr}

@@ -1,9 +1,9 @@
--- Signed readings.
+-- Words as signed numbers.
 use Prim.Native.Nat.{ℕ, suc, _+_, _-_, _*_, _/_, _%_, _^_, _≤_, _<_}
-use lib.Dec.{eqb, leb}
+use lib.Dec.{leb}
 use mathlib.Core.Bool.{Bool, true, false, cond}
-use mathlib.Core.Logic.{_⊎_, inl, inr}
-use mathlib.Core.Path.{_≡_, refl, ap, sym, _∙_}
+use mathlib.Core.Logic.{_⊎_, inr}
+use mathlib.Core.Path.{_≡_, refl}
 use lib.IntN.{ℤ, pos, negsuc, _-ℤ_}
 use lib.Pow.{high-ones, pow-mono, pow-pos, shr-lt, split}
 use native.Mathlib.Nat.{mod-eq-of-lt, two-pow-succ, zero-add, zero-mul}
@@ -23,7 +23,7 @@ eqZ-tells (negsuc a) (pos b) = inr (refl, λ e. omega (arith, ints))
 eqZ-tells (negsuc a) (negsuc b) = grind (arith, eqb-tells a b)
 
 module _ (w : ℕ) (h : 0 < w) where
-  pub halves : 2 ^ w ≡ 2 ^ (w - 1) + 2 ^ (w - 1)
+  halves : 2 ^ w ≡ 2 ^ (w - 1) + 2 ^ (w - 1)
   halves = let e : suc (w - 1) ≡ w = omega arith in rw e at (two-pow-succ (w - 1))
 
   -- the top bit of a word says whether it is in the upper half

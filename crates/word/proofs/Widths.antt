@@ -1,12 +1,10 @@
 -- Facts about shifts and widths, each over the width or the amount.
-use Prim.Native.Nat.{ℕ, zero, suc, _+_, _-_, _*_, _/_, _%_, _^_, _≤_, _<_}
+use Prim.Native.Nat.{ℕ, _+_, _-_, _*_, _/_, _%_, _^_, _≤_, _<_}
 use lib.Arith.{digits-div}
-use lib.Bits.{bitAnd, and-mask}
 use lib.Pow.{pow-add, pow-mono, pow-pos, shr-lt, split}
 use mathlib.Core.Path.{_≡_, ap, sym, _∙_}
 use native.Mathlib.Nat.{add-mul, div-eq-of-lt, lt-of-lt-of-le, mod-eq-of-lt, mod-lt}
 use native.Mathlib.Omega.{arith}
-use Rattle.std.proofs.shelf.Bits.{one-shl}
 
 -- from its width up a word has no bits
 pub none-above : (x w n : ℕ) → x < 2 ^ w → w ≤ n → x / 2 ^ n ≡ 0
@@ -15,10 +13,6 @@ none-above x w n h k = div-eq-of-lt (lt-of-lt-of-le h (pow-mono k))
 -- below any n from its width up it has them all
 pub all-below : (x w n : ℕ) → x < 2 ^ w → w ≤ n → x % 2 ^ n ≡ x
 all-below x w n h k = mod-eq-of-lt (lt-of-lt-of-le h (pow-mono k))
-
--- the mask of n ones, as a word of w bits computes it
-pub masked : (x w n : ℕ) → n < w → bitAnd x ((1 * 2 ^ n) % 2 ^ w - 1) ≡ x % 2 ^ n
-masked x w n h = rw (one-shl n w h) (and-mask x n)
 
 -- NOT and a move down change places
 pub not-shr : (x j k : ℕ) → x < 2 ^ (j + k) → (2 ^ (j + k) - 1 - x) / 2 ^ k ≡ 2 ^ j - 1 - x / 2 ^ k

@@ -1,4 +1,5 @@
 pub mod Addresses
+pub mod Bitwise
 pub mod Compare
 pub mod Conditions
 pub mod Extend

@@ -1,5 +1,5 @@
 ghost use mathlib.Core.Path.{_≡_};
-ghost use Prim.Native.Nat.{_*_, _/_, _%_, _^_};
+ghost use Prim.Native.Nat.{_/_, _^_};
 ghost use Rattle.word.specs.Fields.{bit-of, field-of};
 use super::extend::zero_extend;
 

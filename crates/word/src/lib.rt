@@ -1,18 +1,24 @@
 //! What Armv6-M instructions compute: pure functions on words, flags and sets of bits.
 
 mod addresses;
+mod bitwise;
 mod compare;
 mod conditions;
 mod extend;
 mod fields;
 mod flags;
-mod logic;
+mod products;
 mod reverse;
 mod sets;
 mod shifts;
 mod sums;
+#[cfg(test)]
+mod tests;
 
 pub use addresses::align;
+pub use bitwise::Logic;
+pub use bitwise::logical;
+pub use bitwise::not;
 pub use compare::compared;
 pub use conditions::Condition;
 pub use extend::sign_extend;
@@ -20,16 +26,12 @@ pub use extend::zero_extend;
 pub use fields::bit;
 pub use fields::field;
 pub use flags::Flags;
-pub use logic::and;
-pub use logic::bic;
-pub use logic::eor;
-pub use logic::mul;
-pub use logic::not;
-pub use logic::or;
+pub use products::mul;
 pub use reverse::rev;
 pub use reverse::rev16;
 pub use reverse::revsh;
 pub use sets::has;
+pub use sets::least;
 pub use sets::with;
 pub use sets::without;
 pub use shifts::Shift;

@@ -1,5 +1,4 @@
 ghost use mathlib.Core.Path.{_≡_};
-ghost use Rattle.word.specs.Extend.{sign-extend};
 ghost use Rattle.word.specs.Integers.{signed};
 ghost use Rattle.word.specs.Reverse.{rev-of, rev16-of, revsh-of, swapped};
 use super::extend::sign_extend;

@@ -2,7 +2,7 @@ use mathlib.Core.Bool.{false}
 use mathlib.Core.Path.{_≡_}
 use native.Mathlib.Nat.{div-one}
 use native.Mathlib.Omega.{arith}
-use Prim.Native.Nat.{_*_, _%_, _^_}
+use Prim.Native.Nat.{_*_, _^_}
 use Rattle.std.proofs.shelf.Ways.{tells}
 use Rattle.word.proofs.Moves.{bit-shl, shl-past}
 use Rattle.word.proofs.shifts.lsl_c.Needs as need

@@ -1,6 +1,0 @@
-use mathlib.Core.Path.{refl}
-use Rattle.word.proofs.Bitwise.{bit-or}
-use Rattle.word.proofs.logic.or.Needs as need
-
-pub returns : need.returns
-returns c = record { value = refl; bits = bit-or (c .args .x) (c .args .y) }
