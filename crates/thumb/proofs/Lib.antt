@@ -1,3 +1,5 @@
+pub mod Known
+pub mod Pieces
 pub mod Settled
 pub mod Undefined
 pub mod Laws

@@ -7,16 +7,15 @@ use lib.Dec.{eqb}
 use lib.ListN.{length}
 use lib.Pow.{pow-pos}
 use native.Mathlib.Nat.{mod-lt}
-use native.Mathlib.Omega.{arith}
 use borrow.Author.Tests.{eq-eqb, eqb-true}
 use Rattle.std.proofs.shelf.Tests.{and-from, and-parts, both-ways, not-true}
 use Rattle.std.proofs.shelf.Ways.{decides-below-and}
 use Rattle.std.specs.declared.result.Result.the-variants.{Err}
 use Rattle.thumb.specs.Diagram.{Bits, bits-of, letter, agrees}
-use Rattle.thumb.specs.Rows.{Row, Answer, narrow-rows, wide-rows}
+use Rattle.thumb.specs.Rows.{Row, narrow-rows, wide-rows}
 use Rattle.thumb.specs.Decoded.{fits, answer, lookup}
-use Rattle.thumb.specs.declared.instructions.Refusal.the-variants.{Undefined, Unpredictable}
-use Rattle.thumb.proofs.Settled.{Fact, slice, Holds, sight, sees}
+use Rattle.thumb.specs.declared.instructions.Refusal.the-variants.{Undefined}
+use Rattle.thumb.proofs.Known.{Fact, slice, Holds, sight, sees}
 
 -- the fixed bits of a diagram could be as drawn, for all that is known
 possible : List Fact → List ℕ → Bool

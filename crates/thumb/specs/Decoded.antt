@@ -8,16 +8,17 @@ use Rattle.thumb.specs.Diagram.{Bits, bits-of, letter, agrees, spelled}
 use Rattle.thumb.specs.Rows.{Answer, Row, narrow-rows, wide-rows}
 use Rattle.thumb.specs.declared.instructions.Refusal.the-variants.{Undefined, Unpredictable}
 
--- the fixed bits of a row are as drawn: the encoding is this row's
+-- the fixed bits are as drawn: the encoding is this row's
 abbrev pub fits : Row → Bits → Bool
 fits r b = agrees (letter "0") (letter "1") (r .drawn) b
 
+-- the should-be bits are as drawn
+abbrev pub proper : Row → Bits → Bool
+proper r b = agrees (letter "z") (letter "w") (r .drawn) b
+
 -- what a row says of the encodings that fit it
 abbrev pub answer : Row → Bits → Answer
-answer r b =
-    cond (agrees (letter "z") (letter "w") (r .drawn) b)
-    (r .means (λ l. spelled (letter l) (r .drawn) b))
-    (Err Unpredictable)
+answer r b = cond (proper r b) (r .means (λ l. spelled (letter l) (r .drawn) b)) (Err Unpredictable)
 
 unfoldable pub lookup : List Row → Bits → Answer
 lookup [] b = Err Undefined

@@ -54,14 +54,14 @@ basic-registers (basic.CmpByte n imm) = n ∷ []
 basic-registers (basic.AddByte dn imm) = dn ∷ []
 basic-registers (basic.SubByte dn imm) = dn ∷ []
 
-abbrev pub special-named : Special-op → List ℕ
-special-named (special.Add dn m) = dn ∷ m ∷ []
-special-named (special.Cmp n m) = n ∷ m ∷ []
-special-named (special.Mov d m) = d ∷ m ∷ []
-special-named (special.Adr d imm) = d ∷ []
-special-named (special.AddSp d imm) = d ∷ []
-special-named (special.RaiseSp imm) = []
-special-named (special.LowerSp imm) = []
+abbrev pub special-data-registers : Special-op → List ℕ
+special-data-registers (special.Add dn m) = dn ∷ m ∷ []
+special-data-registers (special.Cmp n m) = n ∷ m ∷ []
+special-data-registers (special.Mov d m) = d ∷ m ∷ []
+special-data-registers (special.Adr d imm) = d ∷ []
+special-data-registers (special.AddSp d imm) = d ∷ []
+special-data-registers (special.RaiseSp imm) = []
+special-data-registers (special.LowerSp imm) = []
 
 abbrev pub address-registers : Address → List ℕ
 address-registers (Indexed n m) = n ∷ m ∷ []
@@ -98,7 +98,7 @@ system-registers (Msr to n) = n ∷ []
 abbrev pub registers : Instruction → List ℕ
 registers (Basic i) = basic-registers i
 registers (Data op dn m) = dn ∷ m ∷ []
-registers (Special i) = special-named i
+registers (Special i) = special-data-registers i
 registers (Unary op d m) = d ∷ m ∷ []
 registers (Transfer op t address) = t ∷ address-registers address
 registers (Multiple i) = multiple-registers i

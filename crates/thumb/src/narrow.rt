@@ -3,7 +3,7 @@ ghost use mathlib.Core.Path.{_≡_};
 ghost use Prim.Native.Nat.{_+_, _*_, _/_, _%_, _^_, _≤_, _<_};
 ghost use Rattle.std.specs.declared.result.Result.the-variants.{Ok};
 ghost use Rattle.thumb.specs.Decoded.{decoded-narrow};
-ghost use Rattle.thumb.specs.Operands.{branch-offset, shift-amount};
+ghost use Rattle.thumb.specs.Operands.{shift-amount};
 use super::instructions::Address;
 use super::instructions::Basic;
 use super::instructions::Branch;
@@ -163,10 +163,16 @@ fn special(x: u32) -> Result<Instruction, Refusal>
     let n = split(x);
     let m = high(x);
     match x >> 8 {
-        0b010001_00 if n == 15 && m == 15 => Err(Refusal::Unpredictable),
-        0b010001_00 => Ok(Instruction::Special(Special::Add { dn: n, m })),
-        0b010001_01 if n < 8 && m < 8 || n == 15 || m == 15 => Err(Refusal::Unpredictable),
-        0b010001_01 => Ok(Instruction::Special(Special::Cmp { n, m })),
+        0b010001_00 => if n == 15 && m == 15 {
+            Err(Refusal::Unpredictable)
+        } else {
+            Ok(Instruction::Special(Special::Add { dn: n, m }))
+        },
+        0b010001_01 => if n < 8 && m < 8 || n == 15 || m == 15 {
+            Err(Refusal::Unpredictable)
+        } else {
+            Ok(Instruction::Special(Special::Cmp { n, m }))
+        },
         0b010001_10 => Ok(Instruction::Special(Special::Mov { d: n, m })),
         _ => exchange(x),
     }

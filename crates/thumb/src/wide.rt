@@ -122,7 +122,7 @@ fn barrier(x: u32) -> Result<Instruction, Refusal>
 {
     let option = field(x, 0, 4);
     let proper = field(x, 16, 4) == 0b1111 && field(x, 13, 1) == 0 && field(x, 8, 4) == 0b1111;
-    if field(x, 20, 1) == 0 {
+    if x >> 20 != 0b11110_0111011 {
         return Err(Refusal::Undefined);
     }
     let barrier = match field(x, 4, 4) {
@@ -144,7 +144,7 @@ fn undefined_for_good(x: u32) -> Result<Instruction, Refusal>
     ensures { λ r. ⌜ r ≡ decoded-wide x ⌝ }
 {
     let imm = field(x, 16, 4) * 4096 + field(x, 0, 12);
-    if field(x, 20, 1) == 1 && field(x, 13, 1) == 1 {
+    if x >> 20 == 0b11110_1111111 && field(x, 13, 1) == 1 {
         Ok(Instruction::System(System::UdfWide { imm }))
     } else {
         Err(Refusal::Undefined)

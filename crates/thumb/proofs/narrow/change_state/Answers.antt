@@ -4,7 +4,8 @@ use Rattle.thumb.proofs.Undefined.{drawn-only, undefined}
 use Rattle.thumb.specs.Rows.{narrow-rows}
 use mathlib.Core.List.{[], _∷_}
 use mathlib.Core.Path.{refl}
-use Rattle.thumb.proofs.Settled.{above, settled, by-prefix}
+use Rattle.thumb.proofs.Known.{above}
+use Rattle.thumb.proofs.Settled.{settled, by-prefix}
 use Rattle.thumb.proofs.narrow.change_state.Needs as need
 
 pub returns-then-x-ne1459 : need.returns-then-x-ne1459

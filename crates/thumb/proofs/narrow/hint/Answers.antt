@@ -4,7 +4,8 @@ use Rattle.thumb.proofs.Undefined.{drawn-only, undefined}
 use Rattle.thumb.specs.Rows.{narrow-rows}
 use mathlib.Core.List.{[], _∷_}
 use mathlib.Core.Path.{refl}
-use Rattle.thumb.proofs.Settled.{above, settled, settles, slice}
+use Rattle.thumb.proofs.Known.{above, slice}
+use Rattle.thumb.proofs.Settled.{settled, settles}
 use Rattle.thumb.proofs.narrow.hint.Needs as need
 
 pub returns-then-field-eq0 : need.returns-then-field-eq0

@@ -3,25 +3,21 @@ use Rattle.std.proofs.shelf.Ways.{tells}
 use Rattle.thumb.proofs.Settled.{settled, by-prefix}
 use Rattle.thumb.proofs.narrow.special.Needs as need
 
-pub returns-in-68 : need.returns-in-68
+pub returns-then-m-eq15 : need.returns-then-m-eq15
 unfolding settled
-returns-in-68 c = by-prefix (c .args .x) 8 68 (omega arith) (grind (arith, tells))
+returns-then-m-eq15 c = by-prefix (c .args .x) 8 68 (omega arith) (grind (arith, tells))
 
-pub returns-in-68-2 : need.returns-in-68-2
+pub returns-else-n-eq15 : need.returns-else-n-eq15
 unfolding settled
-returns-in-68-2 c = by-prefix (c .args .x) 8 68 (omega arith) (grind (arith, tells))
+returns-else-n-eq15 c = by-prefix (c .args .x) 8 68 (omega arith) (grind (arith, tells))
 
-pub returns-in-68-2·2 : need.returns-in-68-2·2
+pub returns-then-m-eq15-2 : need.returns-then-m-eq15-2
 unfolding settled
-returns-in-68-2·2 c = by-prefix (c .args .x) 8 68 (omega arith) (grind (arith, tells))
+returns-then-m-eq15-2 c = by-prefix (c .args .x) 8 69 (omega arith) (grind (arith, tells))
 
-pub returns-in-69 : need.returns-in-69
+pub returns-else-m-eq15-2 : need.returns-else-m-eq15-2
 unfolding settled
-returns-in-69 c = by-prefix (c .args .x) 8 69 (omega arith) (grind (arith, tells))
-
-pub returns-in-69-2 : need.returns-in-69-2
-unfolding settled
-returns-in-69-2 c = by-prefix (c .args .x) 8 69 (omega arith) (grind (arith, tells))
+returns-else-m-eq15-2 c = by-prefix (c .args .x) 8 69 (omega arith) (grind (arith, tells))
 
 pub returns-in-70 : need.returns-in-70
 unfolding settled

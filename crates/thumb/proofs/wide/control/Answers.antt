@@ -4,7 +4,7 @@ use mathlib.Core.List.{[], _∷_}
 use Rattle.thumb.specs.Rows.{wide-rows}
 use mathlib.Core.Path.{refl}
 use Rattle.thumb.proofs.Undefined.{drawn-only, undefined}
-use Rattle.thumb.proofs.Settled.{above, slice}
+use Rattle.thumb.proofs.Known.{above, slice}
 use Rattle.thumb.proofs.wide.control.Needs as need
 
 pub returns-in-rest : need.returns-in-rest

@@ -4,7 +4,8 @@ use native.Mathlib.Omega.{arith}
 use Rattle.std.proofs.shelf.Ways.{tells}
 use mathlib.Core.List.{[], _∷_}
 use Rattle.thumb.specs.Rows.{wide-rows}
-use Rattle.thumb.proofs.Settled.{above, slice, settled, settles}
+use Rattle.thumb.proofs.Known.{above, slice}
+use Rattle.thumb.proofs.Settled.{settled, settles}
 use Rattle.thumb.proofs.wide.link.Needs as need
 
 -- the immediate has 25 bits

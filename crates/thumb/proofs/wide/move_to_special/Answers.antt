@@ -5,12 +5,12 @@ use Rattle.thumb.proofs.wide.move_to_special.Needs as need
 
 pub returns-then-not-proper : need.returns-then-not-proper
 unfolding settled
-returns-then-not-proper c = by-control (c .args .x) 1948 (c .pre .0) (c .pre .1 .0) (c .pre .1 .1) (grind (arith, tells))
+returns-then-not-proper c = by-control (c .args .x) 21 1948 (c .pre .0, (c .pre .1 .0, (c .pre .1 .1, tt))) (grind (arith, tells))
 
 pub returns-in-Some : need.returns-in-Some
 unfolding settled
-returns-in-Some c = by-control (c .args .x) 1948 (c .pre .0) (c .pre .1 .0) (c .pre .1 .1) (grind (arith, tells))
+returns-in-Some c = by-control (c .args .x) 21 1948 (c .pre .0, (c .pre .1 .0, (c .pre .1 .1, tt))) (grind (arith, tells))
 
 pub returns-in-None : need.returns-in-None
 unfolding settled
-returns-in-None c = by-control (c .args .x) 1948 (c .pre .0) (c .pre .1 .0) (c .pre .1 .1) (grind (arith, tells))
+returns-in-None c = by-control (c .args .x) 21 1948 (c .pre .0, (c .pre .1 .0, (c .pre .1 .1, tt))) (grind (arith, tells))

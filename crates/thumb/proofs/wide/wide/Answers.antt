@@ -4,7 +4,7 @@ use mathlib.Core.List.{[], _∷_}
 use Rattle.thumb.specs.Rows.{wide-rows}
 use mathlib.Core.Path.{refl}
 use Rattle.thumb.proofs.Undefined.{drawn-only, undefined}
-use Rattle.thumb.proofs.Settled.{above}
+use Rattle.thumb.proofs.Known.{above}
 use Rattle.thumb.proofs.wide.wide.Needs as need
 
 pub returns-then-x-ne30 : need.returns-then-x-ne30
