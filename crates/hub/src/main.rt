@@ -56,6 +56,7 @@ fn show(rt: &LibcRuntime, script: &str) -> Result<(), HubError> {
     let flash_before = flash.clone()?;
     let ram_before = ram.clone()?;
     let mut hub = pile::build(&mut flash, &mut ram)?;
+    report::print_map(rt)?;
     let tally = play::play(rt, &mut hub, script)?;
     println!(rt)?;
     report::print_tally(rt, tally)?;

@@ -1,6 +1,11 @@
 // What is printed: each line's question and answer, the counts, the bytes that changed, the panel.
 ghost use Prim.Native.Nat.{_≤_};
 ghost use lib.ListN.{length};
+use crate::pile::FLASH_BASE;
+use crate::pile::FLASH_SIZE;
+use crate::pile::PANEL_BASE;
+use crate::pile::RAM_BASE;
+use crate::pile::RAM_SIZE;
 use crate::play::Answer;
 use crate::play::Tally;
 use crate::script::Flat;
@@ -99,13 +104,20 @@ pub impl fmt::Display for Answer as AnswerDisplay {
     }
 }
 
-pub impl fmt::Display for Flat as FlatDisplay {
-    fn fmt<W: fmt::Write>(&self, f: &mut fmt::Formatter<W>) -> fmt::Result {
-        match self {
-            Flat::One => write!(f, "flat 1"),
-            Flat::Two => write!(f, "flat 2"),
-        }
+fn flat_words(flat: Flat) -> &'static str {
+    match flat {
+        Flat::One => "flat 1",
+        Flat::Two => "flat 2",
     }
+}
+
+pub fn print_map(rt: &LibcRuntime) -> io::Result<()> {
+    println!(rt, "A cellar hub's memory")?;
+    println!(rt, "  flash  0x{FLASH_BASE:08x}  {FLASH_SIZE} bytes, read-only")?;
+    println!(rt, "  RAM    0x{RAM_BASE:08x}  {RAM_SIZE} bytes")?;
+    println!(rt, "  panel  0x{PANEL_BASE:08x}  16 words")?;
+    println!(rt)?;
+    println!(rt, "line  asked                                              answered")
 }
 
 pub fn print_request(rt: &LibcRuntime, number: usize, request: Request, answer: Answer) -> io::Result<()> {
@@ -117,7 +129,8 @@ pub fn print_handing(rt: &LibcRuntime, number: usize, flat: Flat) -> io::Result<
     let code = flat.code_base();
     let ram = flat.ram_base();
     let word = flat.panel_word();
-    println!(rt, "{number:>4}  {flat}: code from 0x{code:08x}, RAM from 0x{ram:08x}, panel from word {word}")
+    let flat = flat_words(flat);
+    println!(rt, "{number:>4}  {flat:<49}  has code at 0x{code:x}, RAM at 0x{ram:x} and eight panel words from {word} on")
 }
 
 pub fn print_mistake(rt: &LibcRuntime, number: usize, mistake: Mistake<'_>) -> io::Result<()> {
@@ -131,11 +144,11 @@ pub fn print_tally(rt: &LibcRuntime, tally: Tally) -> io::Result<()> {
     let handed = tally.handed;
     let bad = tally.bad;
     println!(rt, "Lines")?;
-    println!(rt, "  played {played:>6}")?;
-    println!(rt, "  allowed{allowed:>6}")?;
-    println!(rt, "  refused{refused:>6}")?;
-    println!(rt, "  handed {handed:>6}")?;
-    println!(rt, "  bad    {bad:>6}")
+    println!(rt, "  played   {played:>5}")?;
+    println!(rt, "  allowed  {allowed:>5}")?;
+    println!(rt, "  refused  {refused:>5}")?;
+    println!(rt, "  handed   {handed:>5}  to a flat")?;
+    println!(rt, "  bad      {bad:>5}")
 }
 
 // How many bytes of a run of changes stand on one line.
@@ -152,7 +165,7 @@ pub fn print_changes(rt: &LibcRuntime, base: u32, before: &[u8], after: &[u8]) -
             let address = u64::from(base).saturating_add(at as u64);
             let old = Bytes(&before[at..at + count]);
             let new = Bytes(&after[at..at + count]);
-            println!(rt, "  0x{address:08x}  {old} -> {new}")?;
+            println!(rt, "  0x{address:08x}  before{old}  after{new}")?;
             at += count;
         }
     }
