@@ -52,9 +52,15 @@ pub impl fmt::Display for HubError as HubErrorDisplay {
             HubError::Unwritable(fault) => {
                 let address = fault.address;
                 let cause = fault.cause.number();
-                write!(f, "the flash takes no image at 0x{address:08x} (cause {cause})")
+                write!(
+                    f,
+                    "the flash takes no image at 0x{address:08x} (cause {cause})"
+                )
             }
-            HubError::Unreadable(path, error) => write!(f, "cannot read the script `{path}`: {error}"),
+            HubError::Unreadable(path, error) => write!(
+                f,
+                "cannot read the script `{path}`: {error}"
+            ),
             HubError::OutOfMemory => write!(f, "out of memory"),
             HubError::Silent(error) => write!(f, "cannot print: {error}"),
         }

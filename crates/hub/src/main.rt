@@ -15,11 +15,11 @@ use crate::pile::FLASH_BASE;
 use crate::pile::FLASH_SIZE;
 use crate::pile::RAM_BASE;
 use crate::pile::RAM_SIZE;
-use std::env;
-use std::fs;
 use parts::PanelBus;
 use parts::SplitBus;
 use parts::StripBus;
+use std::env;
+use std::fs;
 
 fn main(rt: LibcRuntime) -> Result<(), HubError> {
     let ended = run(&rt);
@@ -68,5 +68,8 @@ fn show(rt: &LibcRuntime, script: &str) -> Result<(), HubError> {
     println!(rt, "\nBytes that changed")?;
     report::print_changes(rt, FLASH_BASE, &flash_before, &flash)?;
     report::print_changes(rt, RAM_BASE, &ram_before, &ram)?;
+    if flash == flash_before && ram == ram_before {
+        println!(rt, "  none")?;
+    }
     Ok(())
 }

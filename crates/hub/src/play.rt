@@ -1,4 +1,8 @@
 // Plays a script on the hub, and counts what came of its lines.
+ghost use mathlib.Core.Path.{_≡_};
+ghost use Prim.Native.Nat.{_+_, _-_, _^_, min};
+ghost use Rattle.bus.specs.Meaning.{answer, after, replied, written};
+ghost use Rattle.hub.specs.Play.{answered, outcome-of, counted};
 use crate::error::HubError;
 use crate::error::HubErrorFromIo;
 use crate::error::HubErrorFromRefusal;
@@ -32,7 +36,9 @@ pub enum Outcome {
 }
 
 impl Answer {
-    fn outcome(self) -> Outcome {
+    fn outcome(self) -> Outcome
+        ensures { λ r. ⌜ r ≡ outcome-of self ⌝ }
+    {
         match self {
             Answer::Value(_, _) => Outcome::Allowed,
             Answer::Written => Outcome::Allowed,
@@ -50,11 +56,20 @@ pub struct Tally {
 }
 
 impl Tally {
-    pub fn new() -> Tally {
-        Tally { allowed: 0, refused: 0, handed: 0, bad: 0 }
+    fn new() -> Tally
+        ensures { λ r. ⌜ r ≡ record { allowed = 0; refused = 0; handed = 0; bad = 0 } ⌝ }
+    {
+        Tally {
+            allowed: 0,
+            refused: 0,
+            handed: 0,
+            bad: 0,
+        }
     }
 
-    pub fn count(&mut self, outcome: Outcome) {
+    fn count(&mut self, outcome: Outcome)
+        ensures { λ _. ⌜ now (self .exit) ≡ counted (now (self .entry)) outcome ⌝ }
+    {
         match outcome {
             Outcome::Allowed => self.allowed = self.allowed.saturating_add(1),
             Outcome::Refused => self.refused = self.refused.saturating_add(1),
@@ -64,12 +79,20 @@ impl Tally {
     }
 
     // All lines but the bad ones.
-    pub fn played(&self) -> u64 {
-        self.allowed.saturating_add(self.refused).saturating_add(self.handed)
+    pub fn played(&self) -> u64
+        ensures { λ r. ⌜ r ≡ min (now (self .entry) .allowed + now (self .entry) .refused + now (self .entry) .handed) (2 ^ 64 - 1) ⌝ }
+    {
+        self.allowed
+            .saturating_add(self.refused)
+            .saturating_add(self.handed)
     }
 }
 
-pub fn play<B: Bus>(rt: &LibcRuntime, hub: &mut RegionCheck<B>, text: &str) -> Result<Tally, HubError> {
+pub fn play<B: Bus>(
+    rt: &LibcRuntime,
+    hub: &mut RegionCheck<B>,
+    text: &str,
+) -> Result<Tally, HubError> {
     let mut tally = Tally::new();
     for (index, line) in text.lines().enumerate() {
         if !script::is_remark(line) {
@@ -80,7 +103,12 @@ pub fn play<B: Bus>(rt: &LibcRuntime, hub: &mut RegionCheck<B>, text: &str) -> R
     Ok(tally)
 }
 
-fn play_line<B: Bus>(rt: &LibcRuntime, hub: &mut RegionCheck<B>, number: usize, line: &str) -> Result<Outcome, HubError> {
+fn play_line<B: Bus>(
+    rt: &LibcRuntime,
+    hub: &mut RegionCheck<B>,
+    number: usize,
+    line: &str,
+) -> Result<Outcome, HubError> {
     match script::parse(line) {
         Ok(Command::Ask(request)) => {
             let answer = ask(hub, request);
@@ -99,7 +127,10 @@ fn play_line<B: Bus>(rt: &LibcRuntime, hub: &mut RegionCheck<B>, number: usize, 
     }
 }
 
-fn ask<B: Bus>(bus: &mut B, request: Request) -> Answer {
+fn ask<B: Bus>(bus: &mut B, request: Request) -> Answer
+    ensures value { λ r. ⌜ r ≡ answered (request .access .usage) (answer (verdict (now (bus .entry)) (request .access)) (replied (bytes (now (bus .entry))) (request .access))) ⌝ }
+    ensures contents { λ _. ⌜ bytes (now (bus .exit)) ≡ after (verdict (now (bus .entry)) (request .access)) (written (bytes (now (bus .entry))) (request .access) (request .value)) (bytes (now (bus .entry))) ⌝ }
+{
     match bus.access(request.access, request.value) {
         Err(fault) => Answer::Refused(fault),
         Ok(value) => match request.access.usage {

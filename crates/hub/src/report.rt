@@ -1,6 +1,9 @@
 // What is printed: each line's question and answer, the counts, the bytes that changed, the panel.
-ghost use Prim.Native.Nat.{_≤_};
-ghost use lib.ListN.{length};
+ghost use mathlib.Core.Path.{_≡_};
+ghost use Prim.Native.Nat.{ℕ, _*_, _<_, _≤_};
+ghost use lib.ListN.{length, getD};
+ghost use Rattle.bus.specs.Access.{size};
+ghost use Rattle.hub.specs.Words.{right-word, width-word, flat-words, cause-words, kind-name};
 use crate::pile::FLASH_BASE;
 use crate::pile::FLASH_SIZE;
 use crate::pile::PANEL_BASE;
@@ -20,14 +23,18 @@ use bus::Width;
 use std::fmt;
 use std::io;
 
-fn right_word(right: Right) -> &'static str {
+fn right_word(right: Right) -> &'static str
+    ensures { λ r. ⌜ now r ≡ right-word right ⌝ }
+{
     match right {
         Right::Privileged => "privileged",
         Right::Unprivileged => "unprivileged",
     }
 }
 
-fn width_word(width: Width) -> &'static str {
+fn width_word(width: Width) -> &'static str
+    ensures { λ r. ⌜ now r ≡ width-word width ⌝ }
+{
     match width {
         Width::Byte => "byte",
         Width::Half => "half",
@@ -35,7 +42,9 @@ fn width_word(width: Width) -> &'static str {
     }
 }
 
-fn cause_words(cause: Cause) -> &'static str {
+fn cause_words(cause: Cause) -> &'static str
+    ensures { λ r. ⌜ now r ≡ cause-words cause ⌝ }
+{
     match cause {
         Cause::Unmapped => "nothing there",
         Cause::ReadOnly => "read-only",
@@ -45,7 +54,9 @@ fn cause_words(cause: Cause) -> &'static str {
     }
 }
 
-fn kind_name(kind: u8) -> &'static str {
+fn kind_name(kind: u8) -> &'static str
+    ensures { λ r. ⌜ now r ≡ kind-name kind ⌝ }
+{
     match kind {
         1 => "strip",
         2 => "panel",
@@ -56,7 +67,9 @@ fn kind_name(kind: u8) -> &'static str {
 }
 
 // How many hexadecimal digits a value of this width has.
-fn digits(width: Width) -> usize {
+fn digits(width: Width) -> usize
+    ensures { λ r. ⌜ r ≡ 2 * size width ⌝ }
+{
     match width {
         Width::Byte => 2,
         Width::Half => 4,
@@ -78,7 +91,10 @@ pub impl fmt::Display for Request as RequestDisplay {
                 let digits = digits(width);
                 let width = width_word(width);
                 let value = self.value;
-                write!(f, "{right:<12}  write  {width}  0x{address:08x}  0x{value:0digits$x}")
+                write!(
+                    f,
+                    "{right:<12}  write  {width}  0x{address:08x}  0x{value:0digits$x}"
+                )
             }
         }
     }
@@ -98,13 +114,18 @@ pub impl fmt::Display for Answer as AnswerDisplay {
                 let kind = fault.kind;
                 let part = kind_name(kind);
                 let hops = fault.hops;
-                write!(f, "refused: cause {cause} {why:<14}  kind {kind} {part:<12}  hops {hops}")
+                write!(
+                    f,
+                    "refused: cause {cause} {why:<14}  kind {kind} {part:<12}  hops {hops}"
+                )
             }
         }
     }
 }
 
-fn flat_words(flat: Flat) -> &'static str {
+fn flat_words(flat: Flat) -> &'static str
+    ensures { λ r. ⌜ now r ≡ flat-words flat ⌝ }
+{
     match flat {
         Flat::One => "flat 1",
         Flat::Two => "flat 2",
@@ -113,14 +134,25 @@ fn flat_words(flat: Flat) -> &'static str {
 
 pub fn print_map(rt: &LibcRuntime) -> io::Result<()> {
     println!(rt, "A cellar hub's memory")?;
-    println!(rt, "  flash  0x{FLASH_BASE:08x}  {FLASH_SIZE} bytes, read-only")?;
+    println!(
+        rt,
+        "  flash  0x{FLASH_BASE:08x}  {FLASH_SIZE} bytes, read-only"
+    )?;
     println!(rt, "  RAM    0x{RAM_BASE:08x}  {RAM_SIZE} bytes")?;
     println!(rt, "  panel  0x{PANEL_BASE:08x}  16 words")?;
     println!(rt)?;
-    println!(rt, "line  asked                                              answered")
+    println!(
+        rt,
+        "line  asked                                              answered"
+    )
 }
 
-pub fn print_request(rt: &LibcRuntime, number: usize, request: Request, answer: Answer) -> io::Result<()> {
+pub fn print_request(
+    rt: &LibcRuntime,
+    number: usize,
+    request: Request,
+    answer: Answer,
+) -> io::Result<()> {
     let asked = format!(rt.alloc(), "{request}")?;
     println!(rt, "{number:>4}  {asked:<49}  {answer}")
 }
@@ -130,7 +162,10 @@ pub fn print_handing(rt: &LibcRuntime, number: usize, flat: Flat) -> io::Result<
     let ram = flat.ram_base();
     let word = flat.panel_word();
     let flat = flat_words(flat);
-    println!(rt, "{number:>4}  {flat:<49}  has code at 0x{code:x}, RAM at 0x{ram:x} and eight panel words from {word} on")
+    println!(
+        rt,
+        "{number:>4}  {flat:<49}  has code at 0x{code:x}, RAM at 0x{ram:x} and eight panel words from {word} on"
+    )
 }
 
 pub fn print_mistake(rt: &LibcRuntime, number: usize, mistake: Mistake<'_>) -> io::Result<()> {
@@ -174,15 +209,17 @@ pub fn print_changes(rt: &LibcRuntime, base: u32, before: &[u8], after: &[u8]) -
 
 // How many bytes changed before the first that did not.
 fn leading_changes(before: &[u8], after: &[u8]) -> usize
-    ensures before_len { λ r. ⌜ r ≤ length (now (before .entry)) ⌝ }
-    ensures after_len { λ r. ⌜ r ≤ length (now (after .entry)) ⌝ }
+    ensures within { λ r. ⌜ r ≤ length (now (before .entry)) ⌝ ∗ ⌜ r ≤ length (now (after .entry)) ⌝ }
+    ensures changed { λ r. ⌜ ((k : ℕ) → k < r → getD (now (before .entry)) k 0 ≡ getD (now (after .entry)) k 0 → ⊥) ⌝ }
+    ensures kept { λ r. ⌜ (r < length (now (before .entry)) → r < length (now (after .entry)) → getD (now (before .entry)) r 0 ≡ getD (now (after .entry)) r 0) ⌝ }
 {
-    for (index, (old, new)) in before.iter().zip(after.iter()).enumerate() {
-        if *old == *new {
+    let shorter = before.len().min(after.len());
+    for index in 0..shorter {
+        if before[index] == after[index] {
             return index;
         }
     }
-    before.len().min(after.len())
+    shorter
 }
 
 // Bytes in hexadecimal, a blank before each.
@@ -201,5 +238,8 @@ impl<'a> fmt::Display for Bytes<'a> as BytesDisplay {
 // Four of the panel's words to a line, from the word `first` on.
 pub fn print_words(rt: &LibcRuntime, first: u32, words: [u32; 4]) -> io::Result<()> {
     let [a, b, c, d] = words;
-    println!(rt, "  {first:>2}  0x{a:08x}  0x{b:08x}  0x{c:08x}  0x{d:08x}")
+    println!(
+        rt,
+        "  {first:>2}  0x{a:08x}  0x{b:08x}  0x{c:08x}  0x{d:08x}"
+    )
 }

@@ -1,4 +1,7 @@
 // Scripts: one command to a line, read word by word.
+ghost use mathlib.Core.Path.{_≡_};
+ghost use Prim.Native.Nat.{_+_, _^_};
+ghost use Rattle.bus.specs.Access.{size};
 use bus::Access;
 use bus::Right;
 use bus::Use;
@@ -74,7 +77,9 @@ pub impl<'a> fmt::Display for Mistake<'a> as MistakeDisplay {
 }
 
 // The greatest value that an access of this width can store.
-fn largest(width: Width) -> u32 {
+fn largest(width: Width) -> u32
+    ensures { λ r. ⌜ r + 1 ≡ 256 ^ size width ⌝ }
+{
     match width {
         Width::Byte => 0xff,
         Width::Half => 0xffff,
@@ -94,32 +99,65 @@ pub fn parse(line: &str) -> Result<Command, Mistake<'_>> {
         Some("flat") => Command::HandTo(parse_flat(words.next())?),
         Some("privileged") => Command::Ask(parse_request(Right::Privileged, &mut words)?),
         Some("unprivileged") => Command::Ask(parse_request(Right::Unprivileged, &mut words)?),
-        found => return Err(Mistake { wanted: Wanted::Command, found }),
+        found => return Err(Mistake {
+            wanted: Wanted::Command,
+            found,
+        }),
     };
     match words.next() {
         None => Ok(command),
-        found => Err(Mistake { wanted: Wanted::End, found }),
+        found => Err(Mistake {
+            wanted: Wanted::End,
+            found,
+        }),
     }
 }
 
-fn parse_request<'a>(right: Right, words: &mut SplitWhitespace<'a>) -> Result<Request, Mistake<'a>> {
+fn parse_request<'a>(
+    right: Right,
+    words: &mut SplitWhitespace<'a>,
+) -> Result<Request, Mistake<'a>> {
     match words.next() {
         Some("fetch") => {
             let address = parse_address(words.next())?;
-            Ok(Request { access: Access { usage: Use::Fetch, right, address }, value: 0 })
+            Ok(Request {
+                access: Access {
+                    usage: Use::Fetch,
+                    right,
+                    address,
+                },
+                value: 0,
+            })
         }
         Some("read") => {
             let width = parse_width(words.next())?;
             let address = parse_address(words.next())?;
-            Ok(Request { access: Access { usage: Use::Read(width), right, address }, value: 0 })
+            Ok(Request {
+                access: Access {
+                    usage: Use::Read(width),
+                    right,
+                    address,
+                },
+                value: 0,
+            })
         }
         Some("write") => {
             let width = parse_width(words.next())?;
             let address = parse_address(words.next())?;
             let value = parse_value(width, words.next())?;
-            Ok(Request { access: Access { usage: Use::Write(width), right, address }, value })
+            Ok(Request {
+                access: Access {
+                    usage: Use::Write(width),
+                    right,
+                    address,
+                },
+                value,
+            })
         }
-        found => Err(Mistake { wanted: Wanted::Usage, found }),
+        found => Err(Mistake {
+            wanted: Wanted::Usage,
+            found,
+        }),
     }
 }
 
@@ -127,7 +165,10 @@ fn parse_flat(found: Option<&str>) -> Result<Flat, Mistake<'_>> {
     match found {
         Some("1") => Ok(Flat::One),
         Some("2") => Ok(Flat::Two),
-        _ => Err(Mistake { wanted: Wanted::Flat, found }),
+        _ => Err(Mistake {
+            wanted: Wanted::Flat,
+            found,
+        }),
     }
 }
 
@@ -136,7 +177,10 @@ fn parse_width(found: Option<&str>) -> Result<Width, Mistake<'_>> {
         Some("byte") => Ok(Width::Byte),
         Some("half") => Ok(Width::Half),
         Some("word") => Ok(Width::Word),
-        _ => Err(Mistake { wanted: Wanted::Width, found }),
+        _ => Err(Mistake {
+            wanted: Wanted::Width,
+            found,
+        }),
     }
 }
 

@@ -35,17 +35,41 @@ mod tests {
 
     fn fetch(right: Right, address: u32, expected: Expected) -> Row {
         let usage = Use::Fetch;
-        Row { access: Access { usage, right, address }, value: 0, expected }
+        Row {
+            access: Access {
+                usage,
+                right,
+                address,
+            },
+            value: 0,
+            expected,
+        }
     }
 
     fn read(right: Right, width: Width, address: u32, expected: Expected) -> Row {
         let usage = Use::Read(width);
-        Row { access: Access { usage, right, address }, value: 0, expected }
+        Row {
+            access: Access {
+                usage,
+                right,
+                address,
+            },
+            value: 0,
+            expected,
+        }
     }
 
     fn write(right: Right, width: Width, address: u32, value: u32, expected: Expected) -> Row {
         let usage = Use::Write(width);
-        Row { access: Access { usage, right, address }, value, expected }
+        Row {
+            access: Access {
+                usage,
+                right,
+                address,
+            },
+            value,
+            expected,
+        }
     }
 
     fn try_rows<B: Bus>(bus: &mut B, rows: &[Row]) -> Result<(), Fail> {
@@ -60,7 +84,10 @@ mod tests {
             (Ok(got), Expected::Value(wanted)) => check_eq(got, wanted),
             (Err(fault), Expected::Fault(cause, kind, hops)) => {
                 check_eq(fault.address, row.access.address)?;
-                check_eq((fault.cause.number(), fault.kind, fault.hops), (cause, kind, hops))
+                check_eq(
+                    (fault.cause.number(), fault.kind, fault.hops),
+                    (cause, kind, hops),
+                )
             }
             (Ok(_), Expected::Fault(_, _, _)) => Err(Fail::new("allowed, not refused")),
             (Err(_), Expected::Value(_)) => Err(Fail::new("refused, not allowed")),
@@ -84,11 +111,21 @@ mod tests {
     }
 
     fn region(base: u32, exponent: u8, code: u8) -> Setting {
-        Setting { on: true, base, exponent, code, no_fetch: false, sub_marks: 0 }
+        Setting {
+            on: true,
+            base,
+            exponent,
+            code,
+            no_fetch: false,
+            sub_marks: 0,
+        }
     }
 
     // A region check over flash below 0x20000000, RAM below 0x40000000, and a panel.
-    fn piled<'a>(flash: &'a mut [u8], ram: &'a mut [u8]) -> Result<RegionCheck<Memory<'a>>, Refusal> {
+    fn piled<'a>(
+        flash: &'a mut [u8],
+        ram: &'a mut [u8],
+    ) -> Result<RegionCheck<Memory<'a>>, Refusal> {
         let ram_from = Limit::new(0x2000_0000)?;
         let panel_from = Limit::new(0x4000_0000)?;
         let flash = Strip::new(flash, 0, 0x110)?;
@@ -113,22 +150,31 @@ mod tests {
         let user = Right::Unprivileged;
         let host = Right::Privileged;
         let done = Expected::Value(0);
-        try_rows(&mut pile, &[
-            fetch(user, 0x02, Expected::Value(0x5a5a)),
-            read(host, Width::Word, 0x11c, Expected::Value(0x5a5a_5a5a)),
-            write(host, Width::Byte, 0x110, 0xa5, done),
-            read(host, Width::Word, 0x110, Expected::Value(0x5a5a_5aa5)),
-            write(user, Width::Word, 0x2000_0004, 0x1234_5678, done),
-            read(user, Width::Byte, 0x2000_0005, Expected::Value(0x56)),
-            write(user, Width::Half, 0x2000_0006, 0xabcd, done),
-            read(host, Width::Word, 0x2000_0004, Expected::Value(0xabcd_5678)),
-            write(user, Width::Word, 0x4000_003c, 2150, done),
-            read(user, Width::Word, 0x4000_003c, Expected::Value(2150)),
-            read(user, Width::Word, 0x4000_0038, Expected::Value(0)),
-        ])?;
+        try_rows(
+            &mut pile,
+            &[
+                fetch(user, 0x02, Expected::Value(0x5a5a)),
+                read(host, Width::Word, 0x11c, Expected::Value(0x5a5a_5a5a)),
+                write(host, Width::Byte, 0x110, 0xa5, done),
+                read(host, Width::Word, 0x110, Expected::Value(0x5a5a_5aa5)),
+                write(user, Width::Word, 0x2000_0004, 0x1234_5678, done),
+                read(user, Width::Byte, 0x2000_0005, Expected::Value(0x56)),
+                write(user, Width::Half, 0x2000_0006, 0xabcd, done),
+                read(host, Width::Word, 0x2000_0004, Expected::Value(0xabcd_5678)),
+                write(user, Width::Word, 0x4000_003c, 2150, done),
+                read(user, Width::Word, 0x4000_003c, Expected::Value(2150)),
+                read(user, Width::Word, 0x4000_0038, Expected::Value(0)),
+            ],
+        )?;
         check(ram.len() == 0x40 && flash.len() == 0x120)?;
-        check_eq([ram[3], ram[4], ram[5], ram[6], ram[7], ram[8]], [0, 0x78, 0x56, 0xcd, 0xab, 0])?;
-        check_eq([flash[0x10f], flash[0x110], flash[0x111]], [0x5a, 0xa5, 0x5a])
+        check_eq(
+            [ram[3], ram[4], ram[5], ram[6], ram[7], ram[8]],
+            [0, 0x78, 0x56, 0xcd, 0xab, 0],
+        )?;
+        check_eq(
+            [flash[0x10f], flash[0x110], flash[0x111]],
+            [0x5a, 0xa5, 0x5a],
+        )
     }
 
     #[test]
@@ -138,19 +184,22 @@ mod tests {
         let mut pile = built(piled(&mut flash, &mut ram))?;
         let user = Right::Unprivileged;
         let host = Right::Privileged;
-        try_rows(&mut pile, &[
-            read(host, Width::Byte, 0x120, Expected::Fault(1, 1, 2)),
-            read(host, Width::Word, 0x2000_0040, Expected::Fault(1, 1, 3)),
-            read(user, Width::Word, 0x4000_0040, Expected::Fault(1, 2, 3)),
-            write(host, Width::Word, 0x10c, 0, Expected::Fault(2, 1, 2)),
-            read(user, Width::Byte, 0x4000_0000, Expected::Fault(3, 2, 3)),
-            write(user, Width::Half, 0x4000_0002, 1, Expected::Fault(3, 2, 3)),
-            fetch(host, 0x4000_0000, Expected::Fault(3, 2, 3)),
-            read(user, Width::Word, 0x110, Expected::Fault(4, 4, 0)),
-            write(host, Width::Word, 0x08, 0, Expected::Fault(4, 4, 0)),
-            read(host, Width::Word, 0x2000_0002, Expected::Fault(5, 4, 0)),
-            fetch(user, 0x111, Expected::Fault(5, 4, 0)),
-        ])?;
+        try_rows(
+            &mut pile,
+            &[
+                read(host, Width::Byte, 0x120, Expected::Fault(1, 1, 2)),
+                read(host, Width::Word, 0x2000_0040, Expected::Fault(1, 1, 3)),
+                read(user, Width::Word, 0x4000_0040, Expected::Fault(1, 2, 3)),
+                write(host, Width::Word, 0x10c, 0, Expected::Fault(2, 1, 2)),
+                read(user, Width::Byte, 0x4000_0000, Expected::Fault(3, 2, 3)),
+                write(user, Width::Half, 0x4000_0002, 1, Expected::Fault(3, 2, 3)),
+                fetch(host, 0x4000_0000, Expected::Fault(3, 2, 3)),
+                read(user, Width::Word, 0x110, Expected::Fault(4, 4, 0)),
+                write(host, Width::Word, 0x08, 0, Expected::Fault(4, 4, 0)),
+                read(host, Width::Word, 0x2000_0002, Expected::Fault(5, 4, 0)),
+                fetch(user, 0x111, Expected::Fault(5, 4, 0)),
+            ],
+        )?;
         check(ram.len() == 0x40 && flash.len() == 0x120)?;
         check_eq([flash[0x08], flash[0x10c], ram[0]], [0x5a, 0x5a, 0])
     }
@@ -171,12 +220,36 @@ mod tests {
     fn the_part_asked_refuses_a_misaligned_access(rt: LibcRuntime) -> Result<(), Fail> {
         let mut bytes = vec![in rt.alloc(); 0u8; 8]?;
         let mut strip = built(Strip::new(&mut bytes, 0, 0))?;
-        try_row(&mut strip, read(Right::Privileged, Width::Half, 0x1, Expected::Fault(5, 1, 0)))?;
+        try_row(
+            &mut strip,
+            read(
+                Right::Privileged,
+                Width::Half,
+                0x1,
+                Expected::Fault(5, 1, 0),
+            ),
+        )?;
         let mut panel = built(Panel::new(0x40))?;
-        try_row(&mut panel, read(Right::Privileged, Width::Word, 0x42, Expected::Fault(5, 2, 0)))?;
+        try_row(
+            &mut panel,
+            read(
+                Right::Privileged,
+                Width::Word,
+                0x42,
+                Expected::Fault(5, 2, 0),
+            ),
+        )?;
         let limit = built(Limit::new(0x40))?;
         let mut split = Split::new(limit, strip, panel);
-        try_row(&mut split, read(Right::Privileged, Width::Word, 0x42, Expected::Fault(5, 3, 0)))
+        try_row(
+            &mut split,
+            read(
+                Right::Privileged,
+                Width::Word,
+                0x42,
+                Expected::Fault(5, 3, 0),
+            ),
+        )
     }
 
     #[test]
@@ -219,8 +292,20 @@ mod tests {
         check_eq(refusal(pile.set_region(3, region(0x100, 8, 8))), 14)?;
         check_eq(pile.decider(0x100), Some(3))?;
         check_eq(pile.decider(0x200), None)?;
-        check(pile.lets_pass(read(Right::Unprivileged, Width::Word, 0x100, Expected::Value(0)).access))?;
-        check(!pile.lets_pass(write(Right::Unprivileged, Width::Word, 0x100, 0, Expected::Value(0)).access))
+        check(pile.lets_pass(
+            read(Right::Unprivileged, Width::Word, 0x100, Expected::Value(0)).access,
+        ))?;
+        check(
+            !pile.lets_pass(
+                write(
+                    Right::Unprivileged,
+                    Width::Word,
+                    0x100,
+                    0,
+                    Expected::Value(0),
+                ).access,
+            ),
+        )
     }
 
     #[test]
@@ -231,10 +316,13 @@ mod tests {
         check_eq(pile.decider(0x0ff), Some(0))?;
         check_eq(pile.decider(0x100), Some(7))?;
         let user = Right::Unprivileged;
-        try_rows(&mut pile, &[
-            write(user, Width::Word, 0x100, 9, Expected::Fault(4, 4, 0)),
-            read(user, Width::Word, 0x100, Expected::Value(0)),
-            write(user, Width::Word, 0x0fc, 9, Expected::Fault(1, 2, 1)),
-        ])
+        try_rows(
+            &mut pile,
+            &[
+                write(user, Width::Word, 0x100, 9, Expected::Fault(4, 4, 0)),
+                read(user, Width::Word, 0x100, Expected::Value(0)),
+                write(user, Width::Word, 0x0fc, 9, Expected::Fault(1, 2, 1)),
+            ],
+        )
     }
 }
