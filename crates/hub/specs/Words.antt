@@ -9,7 +9,7 @@ use Rattle.bus.specs.declared.access.Right.the-variants.{Privileged, Unprivileg
 use Rattle.bus.specs.declared.access.Width.{Width}
 use Rattle.bus.specs.declared.access.Width.the-variants.{Byte, Half, Word}
 use Rattle.bus.specs.declared.fault.Cause.{Cause}
-use Rattle.bus.specs.declared.fault.Cause.the-variants.{Unmapped, ReadOnly, WrongWidth, Forbidden, Misaligned}
+use Rattle.bus.specs.declared.fault.Cause.the-variants.{Unmapped, ReadOnly, WrongWidth, Forbidden, Misaligned, Undefined, Unpredictable, Breakpoint, NotThumb, SupervisorCallTooLow, BadReturn}
 use Rattle.hub.specs.declared.script.Flat.{Flat}
 use Rattle.hub.specs.declared.script.Flat.the-variants.{One, Two}
 
@@ -32,6 +32,12 @@ cause-words ReadOnly = codes "read-only"
 cause-words WrongWidth = codes "panel width"
 cause-words Forbidden = codes "region forbids"
 cause-words Misaligned = codes "misaligned"
+cause-words Undefined = codes "undefined instruction"
+cause-words Unpredictable = codes "unpredictable instruction"
+cause-words Breakpoint = codes "breakpoint"
+cause-words NotThumb = codes "T clear"
+cause-words SupervisorCallTooLow = codes "SVC too low"
+cause-words BadReturn = codes "bad exception return"
 
 -- the name of the kind of part that has this number
 abbrev pub kind-name : ℕ → List ℕ

@@ -51,6 +51,12 @@ fn cause_words(cause: Cause) -> &'static str
         Cause::WrongWidth => "panel width",
         Cause::Forbidden => "region forbids",
         Cause::Misaligned => "misaligned",
+        Cause::Undefined => "undefined instruction",
+        Cause::Unpredictable => "unpredictable instruction",
+        Cause::Breakpoint => "breakpoint",
+        Cause::NotThumb => "T clear",
+        Cause::SupervisorCallTooLow => "SVC too low",
+        Cause::BadReturn => "bad exception return",
     }
 }
 

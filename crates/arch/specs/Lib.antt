@@ -1,0 +1,14 @@
+pub mod Accesses
+pub mod Answers
+pub mod Branches
+pub mod Data
+pub mod Entry
+pub mod Laws
+pub mod Machine
+pub mod Priorities
+pub mod Registers
+pub mod Return
+pub mod Status
+pub mod Step
+pub mod System
+pub mod Transfers
