@@ -39,3 +39,12 @@ write-answer w m a allowed writes = rw (allowed, writes)
 
 pub write-leaves : (w : Verdict) (m m′ : Bytes) (a : Access) (v : ℕ) → w ≡ None → is-write (a .usage) ≡ true → m′ ≡ store (bytes-of a) m (a .address) v → m′ ≡ after w (written m a v) m
 write-leaves w m m′ a v allowed writes stored = rw (allowed, writes) stored
+
+-- a refused access answers its fault, whatever it would have read, and leaves all
+pub refused-answer : (w : Verdict) (u v : ℕ) (f : Fault) → Err f ≡ answer w u → Err f ≡ answer w v
+refused-answer (Some g) u v f e = e
+refused-answer None u v f e = let no : _≡_ {A = ℕ} 0 1 = cc in absurd (omega arith)
+
+pub refused-leaves : (w : Verdict) (u : ℕ) (changed m : Bytes) (f : Fault) → Err f ≡ answer w u → m ≡ after w changed m
+refused-leaves (Some g) u changed m f e = refl
+refused-leaves None u changed m f e = let no : _≡_ {A = ℕ} 0 1 = cc in absurd (omega arith)

@@ -1,8 +1,10 @@
-use Prim.Native.Nat.{_<_}
-use mathlib.Core.Path.{sym}
+use Prim.Native.Nat.{_/_, _%_, _<_}
+use mathlib.Core.Path.{refl, sym}
 use borrow.Author.Needs.{needs}
+use Rattle.std.proofs.shelf.Results.{err-from-errBy}
 use lib.ListN.{length}
-use Rattle.bus.proofs.Answer.{read-leaves}
+use Rattle.bus.specs.Meaning.{replied, written}
+use Rattle.bus.proofs.Answer.{read-leaves, refused-answer, refused-leaves}
 use Rattle.parts.specs.Panel.{panel-bytes, panel-verdict}
 use Rattle.parts.proofs.Panels.{panel-read, panel-wrote, panel-write}
 use Rattle.parts.proofs.panel.PanelBus.access.Needs as need
@@ -35,3 +37,17 @@ returns c =
       verdicts = search needs;
       settled = search needs;
     }
+
+pub returns-in-Break-at : need.returns-in-Break-at
+returns-in-Break-at c =
+    let s = c .args .self .now in
+    let a = c .args .access in
+    let p = err-from-errBy (c .from-residual .result) (c .from-residual .ensures .1) in
+    let f = c .in-Break-at .field-0 .0 in
+    let refused = c .in-Break-at .ensures tt in
+    rw (p .1, p .2) (record {
+      value = refused-answer (panel-verdict s a) (a .address % 64 / 4) (replied (panel-bytes s) a) f refused;
+      contents = refused-leaves (panel-verdict s a) (a .address % 64 / 4) (written (panel-bytes s) a (c .args .value)) (panel-bytes s) f refused;
+      verdicts = refl;
+      settled = refl;
+    })

@@ -1,7 +1,9 @@
-use Prim.Native.Nat.{ℕ}
-use mathlib.Core.Path.{sym, ap}
+use Prim.Native.Nat.{ℕ, _-_}
+use mathlib.Core.Path.{refl, sym, ap}
 use borrow.Author.Needs.{needs}
-use Rattle.bus.proofs.Answer.{read-leaves}
+use Rattle.std.proofs.shelf.Results.{err-from-errBy}
+use Rattle.bus.specs.Meaning.{replied, written}
+use Rattle.bus.proofs.Answer.{read-leaves, refused-answer, refused-leaves}
 use Rattle.parts.specs.Strip.{verdict-at, strip-bytes, strip-verdict}
 use Rattle.parts.proofs.Strips.{strip-read, strip-wrote, strip-write}
 use Rattle.parts.proofs.strip.StripBus.access.Needs as need
@@ -33,3 +35,17 @@ returns c =
       verdicts = search needs;
       settled = search needs;
     }
+
+pub returns-in-Break-at : need.returns-in-Break-at
+returns-in-Break-at c =
+    let s = c .args .self .now in
+    let a = c .args .access in
+    let p = err-from-errBy (c .from-residual .result) (c .from-residual .ensures .1) in
+    let f = c .in-Break-at .field-0 .0 in
+    let refused = c .in-Break-at .ensures tt in
+    rw (p .1, p .2) (record {
+      value = refused-answer (strip-verdict s a) (a .address - s .base) (replied (strip-bytes s) a) f refused;
+      contents = refused-leaves (strip-verdict s a) (a .address - s .base) (written (strip-bytes s) a (c .args .value)) (strip-bytes s) f refused;
+      verdicts = refl;
+      settled = refl;
+    })
