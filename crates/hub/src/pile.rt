@@ -1,7 +1,9 @@
 // The hub's memory: flash, RAM and a panel side by side, under a region check that the supervisor sets for two flats.
+ghost use mathlib.Core.Bool.{true};
 ghost use mathlib.Core.Path.{_≡_};
 ghost use Rattle.std.specs.declared.result.Result.the-variants.{Ok};
-ghost use Rattle.hub.specs.Flats.{neighbour, code-base, ram-base, panel-word, first-region, code-region, ram-region, panel-region, flat-regions, handed-to};
+ghost use Rattle.std.specs.Vec.{made};
+ghost use Rattle.hub.specs.Flats.{neighbour, code-base, ram-base, panel-word, first-region, code-region, ram-region, panel-region, flat-regions, at-first, handed-to, Spare, Shut};
 use crate::error::HubError;
 use crate::error::HubErrorFromFault;
 use crate::error::HubErrorFromRefusal;
@@ -63,7 +65,9 @@ pub type Memory<'a> = Split<Strip<'a>, Split<Strip<'a>, Panel>>;
 pub fn build<'a>(
     flash: &'a mut [u8],
     ram: &'a mut [u8],
-) -> Result<RegionCheck<Memory<'a>>, HubError> {
+) -> Result<RegionCheck<Memory<'a>>, HubError>
+    ensures { λ r. ⌜ made r (λ hub. (hub .table .regions ≡ at-first) × (hub .background ≡ true) × Spare (hub .table .regions)) ⌝ }
+{
     let ram_from = Limit::new(RAM_BASE)?;
     let panel_from = Limit::new(PANEL_BASE)?;
     let panel = Panel::new(PANEL_BASE)?;
@@ -89,10 +93,12 @@ pub fn panel_words<F: Bus, R: Bus>(
     Ok(words)
 }
 
-// Hands the regions to one flat, after it took them from the other.
+// Hands the regions to one flat, after it took them from the other: no unprivileged access to the other's RAM or code
+// passes then, whatever it is for.
 pub fn hand_to<B: Bus>(hub: &mut RegionCheck<B>, flat: Flat) -> Result<(), Refusal>
     ensures value { λ r. ⌜ r ≡ Ok tt ⌝ }
     ensures regions { λ _. ⌜ now (hub .exit) .table .regions ≡ handed-to (now (hub .entry) .table .regions) flat ⌝ }
+    ensures shut { λ _. ⌜ (Spare (now (hub .entry) .table .regions) → Shut (neighbour flat) (now (hub .exit) .table .regions) × Spare (now (hub .exit) .table .regions)) ⌝ }
     ensures rest { λ _. ⌜ (now (hub .exit) .below ≡ now (hub .entry) .below) × (now (hub .exit) .background ≡ now (hub .entry) .background) ⌝ }
 {
     set_flat(hub, flat.neighbour(), Turn::Waits)?;
