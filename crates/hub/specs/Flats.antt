@@ -5,7 +5,7 @@ use mathlib.Core.List.{List, [], _∷_}
 use mathlib.Core.Logic.{_⊎_}
 use mathlib.Core.Path.{_≡_}
 use lib.Dec.{eqb}
-use lib.ListN.{drop, replicate}
+use lib.ListN.{drop}
 use Rattle.bus.specs.declared.access.Access.{Access}
 use Rattle.parts.specs.Region.{off-region, is-privileged}
 use Rattle.parts.specs.RegionCheck.{regions-after, passes}
@@ -74,8 +74,8 @@ flat-regions regions flat turn =
     (first-region flat + 2) (panel-region flat turn)
 
 -- both flats wait
-abbrev pub at-first : List Region
-at-first = flat-regions (flat-regions (replicate 8 off-region) One Waits) Two Waits
+abbrev pub both-wait : List Region → List Region
+both-wait regions = flat-regions (flat-regions regions One Waits) Two Waits
 
 -- the regions of one flat are shut, and then those of the other opened
 abbrev pub handed-to : List Region → Flat → List Region
