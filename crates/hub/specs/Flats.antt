@@ -1,8 +1,14 @@
 -- What belongs to each flat, and the regions that the supervisor sets for it.
-use Prim.Native.Nat.{ℕ, _+_}
-use mathlib.Core.Bool.{true, false}
-use mathlib.Core.List.{List}
-use Rattle.parts.specs.RegionCheck.{regions-after}
+use Prim.Native.Nat.{ℕ, _+_, _/_}
+use mathlib.Core.Bool.{Bool, true, false}
+use mathlib.Core.List.{List, [], _∷_}
+use mathlib.Core.Logic.{_⊎_}
+use mathlib.Core.Path.{_≡_}
+use lib.Dec.{eqb}
+use lib.ListN.{drop}
+use Rattle.bus.specs.declared.access.Access.{Access}
+use Rattle.parts.specs.Region.{off-region, is-privileged}
+use Rattle.parts.specs.RegionCheck.{regions-after, passes}
 use Rattle.parts.specs.declared.region.Region.{Region}
 use Rattle.parts.specs.declared.region.Setting.{Setting}
 use Rattle.hub.specs.declared.script.Flat.{Flat}
@@ -67,6 +73,28 @@ flat-regions regions flat turn =
     (first-region flat + 1) (ram-region flat turn))
     (first-region flat + 2) (panel-region flat turn)
 
+-- both flats wait
+abbrev pub both-wait : List Region → List Region
+both-wait regions = flat-regions (flat-regions regions One Waits) Two Waits
+
 -- the regions of one flat are shut, and then those of the other opened
 abbrev pub handed-to : List Region → Flat → List Region
 handed-to regions flat = flat-regions (flat-regions regions (neighbour flat) Waits) flat Runs
+
+-- the last two of the eight regions are off
+abbrev pub Spare : List Region → Type 0
+Spare regions = drop 6 regions ≡ off-region ∷ off-region ∷ []
+
+-- the RAM or the code of a flat, 1024 bytes each
+abbrev pub in-ram : Flat → ℕ → Bool
+in-ram flat x = eqb (x / 1024) (ram-base flat / 1024)
+
+abbrev pub in-code : Flat → ℕ → Bool
+in-code flat x = eqb (x / 1024) (code-base flat / 1024)
+
+-- no unprivileged access to the flat's RAM or code passes
+abbrev pub Shut : Flat → List Region → Type 0
+Shut flat regions =
+    (background : Bool) (a : Access) → is-privileged (a .right) ≡ false
+    → (in-ram flat (a .address) ≡ true) ⊎ (in-code flat (a .address) ≡ true)
+    → passes regions background a ≡ false

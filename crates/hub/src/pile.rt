@@ -1,12 +1,14 @@
 // The hub's memory: flash, RAM and a panel side by side, under a region check that the supervisor sets for two flats.
+ghost use mathlib.Core.Bool.{true};
 ghost use mathlib.Core.Path.{_≡_};
 ghost use Rattle.std.specs.declared.result.Result.the-variants.{Ok};
-ghost use Rattle.hub.specs.Flats.{neighbour, code-base, ram-base, panel-word, first-region, code-region, ram-region, panel-region, flat-regions, handed-to};
+ghost use Rattle.hub.specs.Flats.{neighbour, code-base, ram-base, panel-word, first-region, code-region, ram-region, panel-region, flat-regions, both-wait, handed-to, Spare, Shut};
 use crate::error::HubError;
 use crate::error::HubErrorFromFault;
 use crate::error::HubErrorFromRefusal;
 use crate::script::Flat;
 use bus::Bus;
+use bus::Fault;
 use bus::Refusal;
 use bus::Right;
 use bus::Width;
@@ -51,15 +53,19 @@ const IMAGE: [(u32, u32); 7] = [
 pub fn burn(flash: &mut [u8]) -> Result<(), HubError> {
     flash.fill(ERASED);
     let mut blank = Strip::new(flash, FLASH_BASE, 0)?;
-    for (address, word) in IMAGE {
-        blank.write(Width::Word, Right::Privileged, address, word)?;
+    put_words(&mut blank, &IMAGE)?;
+    Ok(())
+}
+
+fn put_words<B: Bus>(bus: &mut B, words: &[(u32, u32)]) -> Result<(), Fault> {
+    for (address, word) in words {
+        bus.write(Width::Word, Right::Privileged, *address, *word)?;
     }
     Ok(())
 }
 
 pub type Memory<'a> = Split<Strip<'a>, Split<Strip<'a>, Panel>>;
 
-// The supervisor may use all of it, and neither flat runs yet.
 pub fn build<'a>(
     flash: &'a mut [u8],
     ram: &'a mut [u8],
@@ -71,10 +77,20 @@ pub fn build<'a>(
     let flash = Strip::new(flash, FLASH_BASE, FLASH_SIZE)?;
     let memory = Split::new(ram_from, flash, Split::new(panel_from, ram, panel));
     let mut hub = RegionCheck::new(memory);
-    hub.set_background(true);
-    set_flat(&mut hub, Flat::One, Turn::Waits)?;
-    set_flat(&mut hub, Flat::Two, Turn::Waits)?;
+    start(&mut hub)?;
     Ok(hub)
+}
+
+// The supervisor may use all that no region covers, and neither flat runs yet.
+pub fn start<B: Bus>(hub: &mut RegionCheck<B>) -> Result<(), Refusal>
+    ensures value { λ r. ⌜ r ≡ Ok tt ⌝ }
+    ensures regions { λ _. ⌜ now (hub .exit) .table .regions ≡ both-wait (now (hub .entry) .table .regions) ⌝ }
+    ensures spare { λ _. ⌜ (Spare (now (hub .entry) .table .regions) → Spare (now (hub .exit) .table .regions)) ⌝ }
+    ensures rest { λ _. ⌜ (now (hub .exit) .below ≡ now (hub .entry) .below) × (now (hub .exit) .background ≡ true) ⌝ }
+{
+    hub.set_background(true);
+    set_flat(hub, Flat::One, Turn::Waits)?;
+    set_flat(hub, Flat::Two, Turn::Waits)
 }
 
 // Four words of the hub's panel, from the word `first` on.
@@ -89,10 +105,12 @@ pub fn panel_words<F: Bus, R: Bus>(
     Ok(words)
 }
 
-// Hands the regions to one flat, after it took them from the other.
+// Hands the regions to one flat, after it took them from the other: no unprivileged access to the other's RAM or code
+// passes then, whatever it is for.
 pub fn hand_to<B: Bus>(hub: &mut RegionCheck<B>, flat: Flat) -> Result<(), Refusal>
     ensures value { λ r. ⌜ r ≡ Ok tt ⌝ }
     ensures regions { λ _. ⌜ now (hub .exit) .table .regions ≡ handed-to (now (hub .entry) .table .regions) flat ⌝ }
+    ensures shut { λ _. ⌜ (Spare (now (hub .entry) .table .regions) → Shut (neighbour flat) (now (hub .exit) .table .regions) × Spare (now (hub .exit) .table .regions)) ⌝ }
     ensures rest { λ _. ⌜ (now (hub .exit) .below ≡ now (hub .entry) .below) × (now (hub .exit) .background ≡ now (hub .entry) .background) ⌝ }
 {
     set_flat(hub, flat.neighbour(), Turn::Waits)?;

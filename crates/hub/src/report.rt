@@ -16,7 +16,6 @@ use crate::script::Mistake;
 use crate::script::MistakeDisplay;
 use crate::script::Request;
 use bus::Cause;
-use bus::Fault;
 use bus::Right;
 use bus::Use;
 use bus::Width;
