@@ -150,113 +150,133 @@ fn place<W: fmt::Write>(at: Address, address: u32, f: &mut fmt::Formatter<W>) ->
 
 fn multiple<W: fmt::Write>(i: Multiple, f: &mut fmt::Formatter<W>) -> fmt::Result {
     match i {
-        Multiple::Stm { n, list } => {
-            let n = Register(n);
-            let list = List {
-                low: list,
-                extra: None,
-            };
-            write!(f, "stmia {n}!, {list}")
-        }
+        Multiple::Stm { n, list } => from_base("stmia", n, "!", list, f),
         Multiple::Ldm { n, list } => {
             let back = if word::bit(u32::from(list), u32::from(n)) {
                 ""
             } else {
                 "!"
             };
-            let n = Register(n);
-            let list = List {
-                low: list,
-                extra: None,
-            };
-            write!(f, "ldmia {n}{back}, {list}")
+            from_base("ldmia", n, back, list, f)
         }
-        Multiple::Push { list, lr } => {
-            let list = List {
-                low: list,
-                extra: if lr { Some(14) } else { None },
-            };
-            write!(f, "push {list}")
-        }
-        Multiple::Pop { list, pc } => {
-            let list = List {
-                low: list,
-                extra: if pc { Some(15) } else { None },
-            };
-            write!(f, "pop {list}")
-        }
+        Multiple::Push { list, lr } => from_stack(
+            "push",
+            list,
+            if lr { Some(14) } else { None },
+            f,
+        ),
+        Multiple::Pop { list, pc } => from_stack("pop", list, if pc { Some(15) } else { None }, f),
     }
+}
+
+/// A mnemonic, a base with or without the mark that it is written back, and a list.
+fn from_base<W: fmt::Write>(
+    name: &str,
+    n: u8,
+    back: &str,
+    low: u8,
+    f: &mut fmt::Formatter<W>,
+) -> fmt::Result {
+    let n = Register(n);
+    let list = List { low, extra: None };
+    write!(f, "{name} {n}{back}, {list}")
+}
+
+/// A mnemonic and a list with its extra register.
+fn from_stack<W: fmt::Write>(
+    name: &str,
+    low: u8,
+    extra: Option<u8>,
+    f: &mut fmt::Formatter<W>,
+) -> fmt::Result {
+    let list = List { low, extra };
+    write!(f, "{name} {list}")
 }
 
 fn branch<W: fmt::Write>(i: Branch, address: u32, f: &mut fmt::Formatter<W>) -> fmt::Result {
     match i {
-        Branch::B { offset } => {
-            let to = target(address, offset);
-            write!(f, "b.n {to:#x}")
-        }
+        Branch::B { offset } => to("b", ".n", target(address, offset), f),
         Branch::If { condition, offset } => {
-            let name = names::condition(condition);
-            let to = target(address, offset);
-            write!(f, "b{name}.n {to:#x}")
+            write!(f, "b")?;
+            to(
+                names::condition(condition),
+                ".n",
+                target(address, offset),
+                f,
+            )
         }
-        Branch::Bl { offset } => {
-            let to = target(address, offset);
-            write!(f, "bl {to:#x}")
-        }
-        Branch::Bx { m } => {
-            let m = Register(m);
-            write!(f, "bx {m}")
-        }
-        Branch::Blx { m } => {
-            let m = Register(m);
-            write!(f, "blx {m}")
-        }
+        Branch::Bl { offset } => to("bl", "", target(address, offset), f),
+        Branch::Bx { m } => one("bx", m, f),
+        Branch::Blx { m } => one("blx", m, f),
     }
+}
+
+/// A mnemonic, its suffix and the address of a branch.
+fn to<W: fmt::Write>(
+    name: &str,
+    suffix: &str,
+    address: u32,
+    f: &mut fmt::Formatter<W>,
+) -> fmt::Result {
+    write!(f, "{name}{suffix} {address:#x}")
+}
+
+/// A mnemonic and a register.
+fn one<W: fmt::Write>(name: &str, m: u8, f: &mut fmt::Formatter<W>) -> fmt::Result {
+    let m = Register(m);
+    write!(f, "{name} {m}")
 }
 
 fn system<W: fmt::Write>(i: System, f: &mut fmt::Formatter<W>) -> fmt::Result {
     match i {
-        System::Svc { imm } => write!(f, "svc {imm}"),
+        System::Svc { imm } => constant("svc ", imm, f),
         System::Bkpt { imm } => write!(f, "bkpt 0x{imm:04x}"),
-        System::Udf { imm } => write!(f, "udf #{imm}"),
-        System::UdfWide { imm } => write!(f, "udf.w #{imm}"),
-        System::Cps { disable } => if disable {
-            write!(f, "cpsid i")
-        } else {
-            write!(f, "cpsie i")
-        },
+        System::Udf { imm } => constant("udf #", imm, f),
+        System::UdfWide { imm } => constant("udf.w #", imm, f),
+        System::Cps { disable } => words(if disable { "cpsid" } else { "cpsie" }, "i", f),
         System::Hint { number } => hint(number, f),
         System::Dsb { option } => barrier("dsb", option, f),
         System::Dmb { option } => barrier("dmb", option, f),
         System::Isb { option } => barrier("isb", option, f),
         System::Mrs { d, from } => {
-            let d = Register(d);
+            one("mrs", d, f)?;
             let from = names::special_register(from);
-            write!(f, "mrs {d}, {from}")
+            write!(f, ", {from}")
         }
         System::Msr { to, n } => {
-            let to = names::special_register(to);
+            words("msr", names::special_register(to), f)?;
             let n = Register(n);
-            write!(f, "msr {to}, {n}")
+            write!(f, ", {n}")
         }
     }
 }
 
+/// A mnemonic, with what stands before the constant, and the constant.
+fn constant<W: fmt::Write>(name: &str, imm: u32, f: &mut fmt::Formatter<W>) -> fmt::Result {
+    write!(f, "{name}{imm}")
+}
+
+/// A mnemonic and a word.
+fn words<W: fmt::Write>(name: &str, word: &str, f: &mut fmt::Formatter<W>) -> fmt::Result {
+    write!(f, "{name} {word}")
+}
+
 fn hint<W: fmt::Write>(number: u32, f: &mut fmt::Formatter<W>) -> fmt::Result {
-    match number {
-        0 => write!(f, "nop"),
-        1 => write!(f, "yield"),
-        2 => write!(f, "wfe"),
-        3 => write!(f, "wfi"),
-        4 => write!(f, "sev"),
-        _ => write!(f, "nop {{{number}}}"),
-    }
+    let name = match number {
+        0 => "nop",
+        1 => "yield",
+        2 => "wfe",
+        3 => "wfi",
+        4 => "sev",
+        _ => return write!(f, "nop {{{number}}}"),
+    };
+    write!(f, "{name}")
 }
 
 /// A barrier; the options but 15 are reserved, and have no names.
 fn barrier<W: fmt::Write>(name: &str, option: u32, f: &mut fmt::Formatter<W>) -> fmt::Result {
     if option == 15 {
-        write!(f, "{name} sy")
+        words(name, "sy", f)
     } else {
         write!(f, "{name} #{option}")
     }
