@@ -94,8 +94,11 @@ frame-of-words low high =
     record { r0 = getD low 0 0; r1 = getD low 1 0; r2 = getD low 2 0; r3 = getD low 3 0; r12 = getD high 0 0; lr = getD high 1 0; «return_address» = getD high 2 0; status = getD high 3 0 }
 
 -- the frame from x upward, as far as the first refusal
+abbrev pub read-upper : Right → List ℕ → ℕ → Attempt Frame
+read-upper right low x = then (read-four right x) (λ high. done (Ok (frame-of-words low high)))
+
 abbrev pub read-frame : Right → ℕ → Attempt Frame
-read-frame right x = then (read-four right x) (λ low. then (read-four right (plus x 16)) (λ high. done (Ok (frame-of-words low high))))
+read-frame right x = then (read-four right x) (λ low. read-upper right low (plus x 16))
 
 -- the frame is read with the right of the mode returned to, all of it before it is judged
 abbrev pub unstack : Bool → Registers → ℕ → Attempt Registers
