@@ -5,6 +5,7 @@ use mathlib.Core.List.{List, [], _∷_}
 use lib.Count.{ones}
 use lib.Dec.{eqb}
 use lib.ListN.{getD, set}
+use Rattle.std.specs.declared.result.Result.{Result}
 use Rattle.std.specs.declared.result.Result.the-variants.{Ok, Err}
 use Rattle.bus.specs.Program.{Program, done}
 use Rattle.bus.specs.declared.access.Right.{Right}
@@ -66,18 +67,27 @@ consistent s exc psr =
 abbrev pub unstacked : ℕ → ℕ → ℕ
 unstacked frame psr = cond (bit-of psr 9) (set-with 32 (plus frame 32) 2) (plus frame 32)
 
+-- the stack of the mode returned to, above the frame
+abbrev pub restacked : Registers → ℕ → ℕ → Registers
+restacked s exc psr =
+    let stack : ℕ = align-to (unstacked (frame-pointer s exc) psr) 4 in
+    record { general = s .general; lr = s .lr; msp = cond (to-process exc) (s .msp) stack; psp = cond (to-process exc) stack (s .psp); pc = s .pc; flags = s .flags; thumb = s .thumb; primask = s .primask; control = record { npriv = s .control .npriv; spsel = to-process exc }; current = s .current; exceptions = s .exceptions; locked = s .locked }
+
 -- the registers that a frame gives back
 abbrev pub restored : Registers → ℕ → Frame → Registers
 restored s exc f =
-    let stack : ℕ = align-to (unstacked (frame-pointer s exc) (f .status)) 4 in
-    record { general = set (set (set (set (set (s .general) 0 (f .r0)) 1 (f .r1)) 2 (f .r2)) 3 (f .r3)) 12 (f .r12); lr = f .lr; msp = cond (to-process exc) (s .msp) stack; psp = cond (to-process exc) stack (s .psp); pc = f .«return_address»; flags = word-flags (f .status); thumb = bit-of (f .status) 24; primask = s .primask; control = record { npriv = s .control .npriv; spsel = to-process exc }; current = number-in s exc (f .status); exceptions = record { pending = s .exceptions .pending; active = still-active s; armed = s .exceptions .armed; ranks = s .exceptions .ranks }; locked = s .locked }
+    let t : Registers = restacked s exc (f .status) in
+    record { general = set (set (set (set (set (s .general) 0 (f .r0)) 1 (f .r1)) 2 (f .r2)) 3 (f .r3)) 12 (f .r12); lr = f .lr; msp = t .msp; psp = t .psp; pc = f .«return_address»; flags = word-flags (f .status); thumb = bit-of (f .status) 24; primask = s .primask; control = t .control; current = number-in s exc (f .status); exceptions = record { pending = s .exceptions .pending; active = still-active s; armed = s .exceptions .armed; ranks = s .exceptions .ranks }; locked = s .locked }
 
 -- a frame is taken where its return address is even and its number fits the mode
 abbrev pub acceptable : Registers → ℕ → Frame → Bool
 acceptable s exc f = eqb (f .«return_address» % 2) 0 && consistent s exc (f .status)
 
+abbrev pub verdict-on : Registers → ℕ → Frame → Result Registers Fault
+verdict-on s exc f = cond (acceptable s exc f) (Ok (restored s exc f)) (Err (core-fault BadReturn s))
+
 abbrev pub judged : Registers → ℕ → Frame → Attempt Registers
-judged s exc f = done (cond (acceptable s exc f) (Ok (restored s exc f)) (Err (core-fault BadReturn s)))
+judged s exc f = done (verdict-on s exc f)
 
 -- four words from x upward, as far as the first refusal
 abbrev pub read-four : Right → ℕ → Attempt (List ℕ)

@@ -93,5 +93,5 @@ pub fn interwork(r: &mut Registers, address: u32)
     ensures { λ _. ⌜ now (r .exit) ≡ interwork (now (r .entry)) address ⌝ }
 {
     r.thumb = address % 2 == 1;
-    r.pc = address / 2 * 2;
+    branch_to(r, address);
 }
