@@ -208,7 +208,7 @@ impl Flat {
         }
     }
 
-    pub fn code_base(self) -> u32
+    pub(crate) fn code_base(self) -> u32
         ensures { λ r. ⌜ r ≡ code-base self ⌝ }
     {
         match self {
@@ -217,7 +217,7 @@ impl Flat {
         }
     }
 
-    pub fn ram_base(self) -> u32
+    pub(crate) fn ram_base(self) -> u32
         ensures { λ r. ⌜ r ≡ ram-base self ⌝ }
     {
         match self {
@@ -236,7 +236,7 @@ impl Flat {
     }
 
     // The first of the flat's eight words on the panel.
-    pub fn panel_word(self) -> u32
+    pub(crate) fn panel_word(self) -> u32
         ensures { λ r. ⌜ r ≡ panel-word self ⌝ }
     {
         match self {
