@@ -229,6 +229,7 @@ module _ (right : Right) (low : right ≡ Unprivileged) where
       (λ c. only-then (read Word right (plus x 12)) (λ d. done (Ok (a ∷ b ∷ c ∷ d ∷ []))) (low, λ _. tt) (λ _. tt))))
 
   only-read-frame : (x : ℕ) → Unprivileged-only (read-frame right x)
+  unfolding read-frame
   only-read-frame x =
       only-then (read-four right x) (λ l. then (read-four right (plus x 16)) (λ h. done (Ok (frame-of-words l h)))) (only-four x)
       (λ l. only-then (read-four right (plus x 16)) (λ h. done (Ok (frame-of-words l h))) (only-four (plus x 16)) (λ _. tt))

@@ -107,7 +107,7 @@ frame-of-words low high =
 abbrev pub read-upper : Right → List ℕ → ℕ → Attempt Frame
 read-upper right low x = then (read-four right x) (λ high. done (Ok (frame-of-words low high)))
 
-abbrev pub read-frame : Right → ℕ → Attempt Frame
+unfoldable pub read-frame : Right → ℕ → Attempt Frame
 read-frame right x = then (read-four right x) (λ low. read-upper right low (plus x 16))
 
 -- the frame is read with the right of the mode returned to, all of it before it is judged

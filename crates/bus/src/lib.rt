@@ -13,4 +13,5 @@ pub use fault::Cause;
 pub use fault::Fault;
 pub use guarded::programs_are_isolated;
 pub use interface::Bus;
+pub use interface::LentBus;
 pub use refusal::Refusal;

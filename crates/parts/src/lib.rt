@@ -9,8 +9,6 @@ mod strip;
 
 pub use panel::Panel;
 pub use panel::PanelBus;
-pub use region::Region;
-pub use region::Rights;
 pub use region::Setting;
 pub use region_check::RegionCheck;
 pub use region_check::RegionCheckBus;

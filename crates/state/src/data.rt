@@ -36,17 +36,41 @@ pub fn basic(r: &mut Registers, instruction: Basic)
 {
     let carry = r.flags.c;
     match instruction {
-        Basic::Lsl { d, m, by } => put_shifted(r, d, word::shift_c(Shift::Lsl, register(r, m), by, carry)),
-        Basic::Lsr { d, m, by } => put_shifted(r, d, word::shift_c(Shift::Lsr, register(r, m), by, carry)),
-        Basic::Asr { d, m, by } => put_shifted(r, d, word::shift_c(Shift::Asr, register(r, m), by, carry)),
+        Basic::Lsl { d, m, by } => put_shifted(
+            r,
+            d,
+            word::shift_c(Shift::Lsl, register(r, m), by, carry),
+        ),
+        Basic::Lsr { d, m, by } => put_shifted(
+            r,
+            d,
+            word::shift_c(Shift::Lsr, register(r, m), by, carry),
+        ),
+        Basic::Asr { d, m, by } => put_shifted(
+            r,
+            d,
+            word::shift_c(Shift::Asr, register(r, m), by, carry),
+        ),
         Basic::Mov { d, m } => put_result(r, d, register(r, m)),
-        Basic::AddRegister { d, n, m } => put_sum(r, d, word::add_with_carry(register(r, n), register(r, m), false)),
+        Basic::AddRegister { d, n, m } => put_sum(
+            r,
+            d,
+            word::add_with_carry(register(r, n), register(r, m), false),
+        ),
         Basic::SubRegister { d, n, m } => put_sum(r, d, subtract(register(r, n), register(r, m))),
-        Basic::AddSmall { d, n, imm } => put_sum(r, d, word::add_with_carry(register(r, n), imm, false)),
+        Basic::AddSmall { d, n, imm } => put_sum(
+            r,
+            d,
+            word::add_with_carry(register(r, n), imm, false),
+        ),
         Basic::SubSmall { d, n, imm } => put_sum(r, d, subtract(register(r, n), imm)),
         Basic::MovByte { d, imm } => put_result(r, d, imm),
         Basic::CmpByte { n, imm } => compare(r, subtract(register(r, n), imm)),
-        Basic::AddByte { dn, imm } => put_sum(r, dn, word::add_with_carry(register(r, dn), imm, false)),
+        Basic::AddByte { dn, imm } => put_sum(
+            r,
+            dn,
+            word::add_with_carry(register(r, dn), imm, false),
+        ),
         Basic::SubByte { dn, imm } => put_sum(r, dn, subtract(register(r, dn), imm)),
     }
 }
@@ -78,13 +102,25 @@ pub fn operate(r: &mut Registers, operation: Operation, dn: u8, m: u8)
         Operation::Lsl => shift_by_register(r, Shift::Lsl, dn, m),
         Operation::Lsr => shift_by_register(r, Shift::Lsr, dn, m),
         Operation::Asr => shift_by_register(r, Shift::Asr, dn, m),
-        Operation::Adc => put_sum(r, dn, word::add_with_carry(register(r, dn), register(r, m), carry)),
-        Operation::Sbc => put_sum(r, dn, word::add_with_carry(register(r, dn), word::not(register(r, m)), carry)),
+        Operation::Adc => put_sum(
+            r,
+            dn,
+            word::add_with_carry(register(r, dn), register(r, m), carry),
+        ),
+        Operation::Sbc => put_sum(
+            r,
+            dn,
+            word::add_with_carry(register(r, dn), word::not(register(r, m)), carry),
+        ),
         Operation::Ror => shift_by_register(r, Shift::Ror, dn, m),
-        Operation::Tst => r.flags = r.flags.with_result(word::logical(Logic::And, register(r, dn), register(r, m))),
+        Operation::Tst => r.flags = r.flags
+            .with_result(word::logical(Logic::And, register(r, dn), register(r, m))),
         Operation::Rsb => put_sum(r, dn, subtract(0, register(r, m))),
         Operation::Cmp => compare(r, subtract(register(r, dn), register(r, m))),
-        Operation::Cmn => compare(r, word::add_with_carry(register(r, dn), register(r, m), false)),
+        Operation::Cmn => compare(
+            r,
+            word::add_with_carry(register(r, dn), register(r, m), false),
+        ),
         Operation::Orr => combine(r, Logic::Orr, dn, m),
         Operation::Mul => put_result(r, dn, word::mul(register(r, dn), register(r, m))),
         Operation::Bic => combine(r, Logic::Bic, dn, m),
@@ -125,7 +161,11 @@ pub fn special(r: &mut Registers, instruction: Special)
             move_on(r, 2);
         }
         Special::Mov { d, m } => write_to(r, d, register(r, m)),
-        Special::Adr { d, imm } => write_to(r, d, word::align(register(r, 15), 4).wrapping_add(imm)),
+        Special::Adr { d, imm } => write_to(
+            r,
+            d,
+            word::align(register(r, 15), 4).wrapping_add(imm),
+        ),
         Special::AddSp { d, imm } => write_to(r, d, stack_pointer(r).wrapping_add(imm)),
         Special::RaiseSp { imm } => {
             set_stack_pointer(r, stack_pointer(r).wrapping_add(imm));

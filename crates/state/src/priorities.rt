@@ -51,7 +51,9 @@ fn counts_pending(r: &Registers, n: u8) -> bool
     ensures { λ b. ⌜ b ≡ counts (now (r .entry)) n ⌝ }
 {
     let number = u32::from(n);
-    n >= 2 && word::has(r.exceptions.pending, number) && (n < 16 || word::has(r.exceptions.armed, number))
+    n >= 2
+        && word::has(r.exceptions.pending, number)
+        && (n < 16 || word::has(r.exceptions.armed, number))
 }
 
 // The better of the best so far and exception n, which has the higher number.

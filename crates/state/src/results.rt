@@ -39,5 +39,9 @@ pub fn write_to(r: &mut Registers, d: u8, value: u32)
     ensures { λ _. ⌜ now (r .exit) ≡ written-to (now (r .entry)) d value ⌝ }
 {
     set_register(r, d, value);
-    r.pc = if d == 15 { value / 2 * 2 } else { r.pc.wrapping_add(2) };
+    r.pc = if d == 15 {
+        value / 2 * 2
+    } else {
+        r.pc.wrapping_add(2)
+    };
 }
