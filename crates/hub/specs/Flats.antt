@@ -41,10 +41,10 @@ abbrev pub ram-rights : Turn → ℕ
 ram-rights Runs = 3
 ram-rights Waits = 1
 
--- of a waiting flat's panel words all may read
+-- a waiting flat's panel words are for the supervisor alone
 abbrev pub panel-rights : Turn → ℕ
 panel-rights Runs = 3
-panel-rights Waits = 2
+panel-rights Waits = 1
 
 -- the eighths of the panel's region that are not the flat's
 abbrev pub panel-marks : Flat → ℕ

@@ -127,8 +127,6 @@ enum Turn {
 // The codes of the rights that the regions are set to.
 const SUPERVISOR_ONLY: u8 = 1;
 
-const SUPERVISOR_WRITES: u8 = 2;
-
 const ALL_WRITE: u8 = 3;
 
 const ALL_READ: u8 = 6;
@@ -177,8 +175,8 @@ fn ram_region(flat: Flat, turn: Turn) -> Setting
     }
 }
 
-// A panel fills a quarter of the smallest region, two eighths: one for each flat. A waiting flat's words stay readable,
-// since a schedule looks at the temperature next door.
+// A panel fills a quarter of the smallest region, two eighths: one for each flat. A waiting flat's words are shut like
+// its RAM: the temperature next door tells whether somebody is at home.
 fn panel_region(flat: Flat, turn: Turn) -> Setting
     ensures { λ r. ⌜ r ≡ panel-region flat turn ⌝ }
 {
@@ -188,7 +186,7 @@ fn panel_region(flat: Flat, turn: Turn) -> Setting
         exponent: 8,
         code: match turn {
             Turn::Runs => ALL_WRITE,
-            Turn::Waits => SUPERVISOR_WRITES,
+            Turn::Waits => SUPERVISOR_ONLY,
         },
         no_fetch: true,
         sub_marks: match flat {

@@ -34,7 +34,7 @@ privileged read byte 0x1000
 privileged read word 0x20002000
 privileged read word 0x40000040
 
-# Flat 2's schedule runs: it may look at the temperature next door, and its neighbour's RAM and code are shut now.
+# Flat 2's schedule runs: its neighbour's temperature, RAM and code are shut now.
 flat 2
 unprivileged fetch 0x800
 unprivileged read word 0x40000000
