@@ -30,9 +30,13 @@ bx-write-pc s x = returns-or-branches (handler s && eqb (field-of x 28 4) 15) s 
 abbrev pub link : ℕ → Registers → ℕ
 link k s = align-to (plus (s .pc) k) 2 + 1
 
+-- a branch that is taken or not
+abbrev pub branched-if : Bool → ℕ → Registers → Registers
+branched-if taken offset s = with-pc s (cond taken (align-to (plus (pc-value s) offset) 2) (plus (s .pc) 2))
+
 abbrev pub branch : Branch → Registers → Attempt Done
 branch (B offset) s = done (Ok (ran (branch-to s (plus (pc-value s) offset))))
-branch (If condition offset) s = done (Ok (ran (with-pc s (cond (passes condition (s .flags)) (align-to (plus (pc-value s) offset) 2) (plus (s .pc) 2)))))
+branch (If condition offset) s = done (Ok (ran (branched-if (passes condition (s .flags)) offset s)))
 branch (Bl offset) s = done (Ok (ran (branch-to (with-lr s (link 4 s)) (plus (pc-value s) offset))))
 branch (Bx m) s = bx-write-pc s (reg s m)
 branch (Blx m) s = done (Ok (ran (interwork (with-lr s (link 2 s)) (reg s m))))

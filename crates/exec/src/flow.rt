@@ -1,0 +1,6 @@
+// How an instruction ends.
+#[derive(Clone, Copy)]
+pub enum Flow {
+    Ran,
+    Returned,
+}
