@@ -3,12 +3,11 @@ use Prim.Native.Nat.{ℕ, _+_, _*_, _%_, _^_}
 use mathlib.Core.Bool.{Bool, true, false, cond, not, _&&_}
 use mathlib.Core.List.{List, [], _∷_}
 use mathlib.Core.Path.{_≡_, refl, sym, ap, ap₂, _∙_}
-use native.Mathlib.Omega.{arith}
 use lib.Count.{ones}
 use lib.Dec.{eqb}
 use Rattle.std.specs.declared.result.Result.{Result}
 use Rattle.std.specs.declared.result.Result.the-variants.{Ok, Err}
-use Rattle.bus.specs.Program.{Reply, Program, done, Always}
+use Rattle.bus.specs.Program.{Reply, done, Always}
 use Rattle.bus.specs.declared.access.Right.{Right}
 use Rattle.bus.specs.declared.access.Width.{Width}
 use Rattle.bus.specs.declared.access.Width.the-variants.{Byte, Half, Word}
@@ -32,7 +31,7 @@ use Rattle.arch.specs.Accesses.{Attempt, then, go-on, read, write}
 use Rattle.arch.specs.Branches.{Done, ran, returned, returns-or-branches, bx-write-pc, branch}
 use Rattle.arch.specs.Return.{exception-return}
 use Rattle.arch.specs.Laws.{Sound}
-use Rattle.arch.specs.Registers.{plus, minus, right-of, sp, reg, handler, privileged, with-pc, with-lr, with-reg, with-sp, moved-on, pend, interwork}
+use Rattle.arch.specs.Registers.{plus, minus, right-of, sp, reg, handler, privileged, with-lr, with-reg, with-sp, moved-on}
 use Rattle.arch.specs.System.{special-write, supervisor-call, system}
 use Rattle.std.proofs.shelf.Tests.{and-left, and-parts}
 use Rattle.arch.specs.Transfers.{loading, storing, transfer, multiple, registers-of, store-registers, load-registers, span, push-lr, pop-pc}

@@ -2,8 +2,8 @@
 use Prim.Native.Nat.{ℕ, _+_, _*_, _%_, _^_}
 use mathlib.Core.Bool.{Bool, true, false, not, _&&_}
 use mathlib.Core.List.{List, [], _∷_}
-use mathlib.Core.Logic.{inl, inr}
-use mathlib.Core.Path.{_≡_, refl, sym, ap, _∙_}
+use mathlib.Core.Logic.{inr}
+use mathlib.Core.Path.{_≡_, refl, ap, _∙_}
 use lib.Dec.{eqb}
 use Rattle.std.proofs.shelf.Tests.{and-parts, or-parts, both-ways}
 use Rattle.std.specs.declared.option.Option.{Option}
@@ -11,13 +11,13 @@ use Rattle.std.specs.declared.option.Option.the-variants.{Some, None}
 use Rattle.std.specs.declared.result.Result.{Result}
 use Rattle.std.specs.declared.result.Result.the-variants.{Ok, Err}
 use Rattle.bus.specs.Isolation.{Unprivileged-only, Guarded}
-use Rattle.bus.specs.Program.{Program, done, Always}
+use Rattle.bus.specs.Program.{done, Always}
 use Rattle.bus.specs.declared.access.Right.{Right}
 use Rattle.bus.specs.declared.access.Right.the-variants.{Unprivileged}
 use Rattle.bus.specs.declared.access.Width.{Width}
 use Rattle.bus.specs.declared.access.Width.the-variants.{Byte, Half, Word}
 use Rattle.bus.specs.declared.fault.Fault.{Fault}
-use Rattle.bus.proofs.Isolation.{unprivileged-bind, unprivileged-then, unprivileged-guarded, guarded-then}
+use Rattle.bus.proofs.Isolation.{unprivileged-bind, unprivileged-then, guarded-then}
 use Rattle.word.specs.Extend.{sign-extend}
 use Rattle.word.specs.Fields.{field-of}
 use Rattle.word.specs.Sums.{one-if}
@@ -37,7 +37,7 @@ use Rattle.thumb.specs.declared.instructions.Transfer.{Transfer}
 use Rattle.thumb.specs.declared.instructions.Transfer.the-variants.{Str, Strh, Strb, Ldrsb, Ldr, Ldrh, Ldrb, Ldrsh}
 use Rattle.arch.specs.Accesses.{Attempt, then, go-on, fetch, read, write, noting, try-words}
 use Rattle.arch.specs.Branches.{Done, ran, returns-or-branches, bx-write-pc, branch}
-use Rattle.arch.specs.Entry.{frame-of, frame-words, is-last, or-lock, or-hard-fault, take-last, take, take-up}
+use Rattle.arch.specs.Entry.{frame-of, frame-words, is-last, take-last, take, take-up}
 use Rattle.arch.specs.Laws.{Sound, Frames-unprivileged, Specials-hidden}
 use Rattle.arch.specs.Priorities.{chosen}
 use Rattle.arch.specs.Return.{forced-thread, frame-pointer, returnable, judged, read-four, frame-of-words, read-frame, unstack, exception-return}

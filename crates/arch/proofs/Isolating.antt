@@ -1,7 +1,7 @@
 -- The laws of a machine under any list of calls.
 use Prim.Native.Nat.{ℕ, _+_}
-use mathlib.Core.Bool.{Bool, true, false}
-use mathlib.Core.List.{List, [], _∷_, _++_}
+use mathlib.Core.Bool.{true, false}
+use mathlib.Core.List.{List, [], _∷_}
 use mathlib.Core.Logic.{_⊎_, inl, inr}
 use mathlib.Core.Path.{_≡_, refl, sym, ap, subst, _∙_}
 use native.Mathlib.Omega.{arith}
@@ -10,16 +10,15 @@ use lib.Dec.{eqb}
 use Rattle.std.proofs.shelf.Tests.{cases-eq, eq-eqb, ne-eqb, false≢true}
 use Rattle.std.specs.declared.result.Result.{Result}
 use Rattle.std.specs.declared.result.Result.the-variants.{Ok, Err}
-use Rattle.bus.specs.Isolation.{Alike, Unwritable, Twins as twin-runs}
+use Rattle.bus.specs.Isolation.{Alike, Twins as twin-runs}
 use Rattle.bus.specs.Program.{World, Reply, done, run, Always}
 use Rattle.bus.specs.declared.access.Right.the-variants.{Privileged}
 use Rattle.bus.specs.declared.access.Width.the-variants.{Word}
 use Rattle.bus.specs.declared.fault.Fault.{Fault}
 use Rattle.bus.proofs.Isolation.{twins, confined}
 use Rattle.bus.proofs.Programs.{run-always}
-use Rattle.word.specs.Sums.{one-if}
 use Rattle.arch.specs.Accesses.{then, go-on, read}
-use Rattle.arch.specs.Laws.{Sound, Faithful, Soundness, Twins, Isolated, Isolation, Isolation-stands}
+use Rattle.arch.specs.Laws.{Sound, Soundness, Twins, Isolation, Isolation-stands}
 use Rattle.arch.specs.Machine.{Machine, response, after-call, after-calls, responses, entry, return, how-many}
 use Rattle.arch.specs.Registers.{privileged}
 use Rattle.arch.specs.Step.{answer-to, fresh, reset}

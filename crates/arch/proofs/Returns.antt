@@ -8,7 +8,7 @@ use lib.Dec.{eqb}
 use Rattle.std.proofs.shelf.Tests.{and-parts, eqb-true, eq-eqb, ne-eqb, not-true, both-ways, true≢false, false≢true}
 use Rattle.std.specs.declared.result.Result.{Result}
 use Rattle.std.specs.declared.result.Result.the-variants.{Ok, Err}
-use Rattle.bus.specs.Program.{Program, Always}
+use Rattle.bus.specs.Program.{Always}
 use Rattle.bus.specs.declared.fault.Cause.the-variants.{BadReturn}
 use Rattle.bus.specs.declared.fault.Fault.{Fault}
 use Rattle.bus.proofs.Programs.{always-all, always-bind}

@@ -14,13 +14,12 @@ use Rattle.std.specs.declared.option.Option.{Option}
 use Rattle.std.specs.declared.option.Option.the-variants.{Some, None}
 use Rattle.std.specs.declared.result.Result.{Result}
 use Rattle.std.specs.declared.result.Result.the-variants.{Ok, Err}
-use Rattle.bus.specs.Program.{Reply, Program, done, bind, Always}
+use Rattle.bus.specs.Program.{Reply, done, bind, Always}
 use Rattle.bus.specs.declared.fault.Fault.{Fault}
 use Rattle.bus.specs.declared.refusal.Refusal.{Refusal}
 use Rattle.bus.specs.declared.refusal.Refusal.the-variants.{OutOfRange, CoreLocked}
 use Rattle.bus.proofs.Programs.{always-all, always-bind}
 use Rattle.word.specs.Fields.{bit-of}
-use Rattle.word.specs.Sets.{set-with}
 use Rattle.word.specs.Sums.{one-if}
 use Rattle.thumb.specs.Decoded.{decoded, wide-first}
 use Rattle.thumb.specs.declared.instructions.Instruction.{Instruction}
@@ -30,12 +29,12 @@ use Rattle.thumb.specs.declared.instructions.Refusal.the-variants.{Undefined, U
 use Rattle.arch.specs.Accesses.{fetch, try-words}
 use Rattle.arch.specs.Branches.{Done, ran, returned}
 use Rattle.arch.specs.Data.{unary-value}
-use Rattle.arch.specs.Entry.{frame-of, frame-words, entered, is-last, or-lock, or-hard-fault, take-last, take-other, take, take-up}
+use Rattle.arch.specs.Entry.{frame-of, frame-words, entered, is-last, or-lock, or-hard-fault, take, take-up}
 use Rattle.arch.specs.Laws.{Sound, Kept}
 use Rattle.arch.specs.Machine.{entry, return}
 use Rattle.arch.specs.Priorities.{execution-priority, chosen}
 use Rattle.arch.specs.Registers.{plus, handler, privileged, right-of, on-process, reg, with-reg, pend, locked-core}
-use Rattle.arch.specs.Step.{execute, perform-decoded, decode-and-perform, instruction-if, instruction, settle, begin, step, external, raisable, rankable, accept-if, raised, armed, ranked, answer-to}
+use Rattle.arch.specs.Step.{execute, perform-decoded, decode-and-perform, instruction-if, instruction, settle, begin, external, raisable, rankable, accept-if, answer-to}
 use Rattle.arch.specs.Transfers.{address-of}
 use Rattle.arch.specs.declared.answers.Answer.the-variants.{Ran, Entered, Faulted, Locked}
 use Rattle.arch.specs.declared.answers.Call.{Call}

@@ -1,9 +1,9 @@
 -- Branches.
-use Prim.Native.Nat.{ℕ, _+_, _/_, _^_}
+use Prim.Native.Nat.{ℕ, _+_}
 use mathlib.Core.Bool.{Bool, true, false, cond, _&&_}
 use lib.Dec.{eqb}
-use Rattle.std.specs.declared.result.Result.the-variants.{Ok, Err}
-use Rattle.bus.specs.Program.{Program, done}
+use Rattle.std.specs.declared.result.Result.the-variants.{Ok}
+use Rattle.bus.specs.Program.{done}
 use Rattle.word.specs.Addresses.{align-to}
 use Rattle.word.specs.Conditions.{passes}
 use Rattle.word.specs.Fields.{field-of}

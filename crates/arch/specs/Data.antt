@@ -10,9 +10,7 @@ use Rattle.word.specs.Flags.{of-sum, with-result, with-shifted}
 use Rattle.word.specs.Reverse.{rev-of, rev16-of, revsh-of}
 use Rattle.word.specs.Shifts.{shift-c}
 use Rattle.word.specs.Sums.{add-with-carry}
-use Rattle.word.specs.declared.bitwise.Logic.{Logic}
 use Rattle.word.specs.declared.bitwise.Logic.the-variants.{And, Orr, Eor, Bic}
-use Rattle.word.specs.declared.shifts.Shift.{Shift}
 use Rattle.word.specs.declared.shifts.Shift.the-variants.{Lsl, Lsr, Asr, Ror}
 use Rattle.word.specs.declared.shifts.Shifted.{Shifted}
 use Rattle.word.specs.declared.sums.Sum.{Sum}

@@ -1,5 +1,5 @@
 -- The registers as the manual names them: R[n], SP, PC, the mode and its privilege, and one write for each.
-use Prim.Native.Nat.{ℕ, _+_, _-_, _*_, _/_, _%_, _^_}
+use Prim.Native.Nat.{ℕ, _+_, _-_, _%_, _^_}
 use mathlib.Core.Bool.{Bool, true, false, not, cond, _&&_, _||_}
 use mathlib.Core.List.{List}
 use lib.Dec.{eqb, ltb}
@@ -8,9 +8,8 @@ use Rattle.bus.specs.declared.access.Right.{Right}
 use Rattle.bus.specs.declared.access.Right.the-variants.{Privileged, Unprivileged}
 use Rattle.word.specs.Addresses.{align-to}
 use Rattle.word.specs.Fields.{bit-of}
-use Rattle.word.specs.Sets.{set-with, set-without}
+use Rattle.word.specs.Sets.{set-with}
 use Rattle.word.specs.declared.flags.Flags.{Flags}
-use Rattle.arch.specs.declared.registers.Control.{Control}
 use Rattle.arch.specs.declared.registers.Exceptions.{Exceptions}
 use Rattle.arch.specs.declared.registers.Registers.{Registers}
 
@@ -39,21 +38,12 @@ with-thumb s v = record { general = s .general; lr = s .lr; msp = s .msp; psp = 
 abbrev pub with-primask : Registers → Bool → Registers
 with-primask s v = record { general = s .general; lr = s .lr; msp = s .msp; psp = s .psp; pc = s .pc; flags = s .flags; thumb = s .thumb; primask = v; control = s .control; current = s .current; exceptions = s .exceptions; locked = s .locked }
 
-abbrev pub with-control : Registers → Control → Registers
-with-control s v = record { general = s .general; lr = s .lr; msp = s .msp; psp = s .psp; pc = s .pc; flags = s .flags; thumb = s .thumb; primask = s .primask; control = v; current = s .current; exceptions = s .exceptions; locked = s .locked }
-
-abbrev pub with-current : Registers → ℕ → Registers
-with-current s v = record { general = s .general; lr = s .lr; msp = s .msp; psp = s .psp; pc = s .pc; flags = s .flags; thumb = s .thumb; primask = s .primask; control = s .control; current = v; exceptions = s .exceptions; locked = s .locked }
-
 abbrev pub with-exceptions : Registers → Exceptions → Registers
 with-exceptions s v = record { general = s .general; lr = s .lr; msp = s .msp; psp = s .psp; pc = s .pc; flags = s .flags; thumb = s .thumb; primask = s .primask; control = s .control; current = s .current; exceptions = v; locked = s .locked }
 
 -- a stack pointer keeps no low two bits
 abbrev pub with-msp : Registers → ℕ → Registers
 with-msp s v = record { general = s .general; lr = s .lr; msp = align-to v 4; psp = s .psp; pc = s .pc; flags = s .flags; thumb = s .thumb; primask = s .primask; control = s .control; current = s .current; exceptions = s .exceptions; locked = s .locked }
-
-abbrev pub with-psp : Registers → ℕ → Registers
-with-psp s v = record { general = s .general; lr = s .lr; msp = s .msp; psp = align-to v 4; pc = s .pc; flags = s .flags; thumb = s .thumb; primask = s .primask; control = s .control; current = s .current; exceptions = s .exceptions; locked = s .locked }
 
 abbrev pub locked-core : Registers → Registers
 locked-core s = record { general = s .general; lr = s .lr; msp = s .msp; psp = s .psp; pc = s .pc; flags = s .flags; thumb = s .thumb; primask = s .primask; control = s .control; current = s .current; exceptions = s .exceptions; locked = true }

@@ -7,7 +7,7 @@ use lib.Dec.{eqb}
 use lib.ListN.{getD, set}
 use Rattle.std.specs.declared.result.Result.{Result}
 use Rattle.std.specs.declared.result.Result.the-variants.{Ok, Err}
-use Rattle.bus.specs.Program.{Program, done}
+use Rattle.bus.specs.Program.{done}
 use Rattle.bus.specs.declared.access.Right.{Right}
 use Rattle.bus.specs.declared.access.Width.the-variants.{Word}
 use Rattle.bus.specs.declared.fault.Cause.{Cause}

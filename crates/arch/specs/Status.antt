@@ -1,7 +1,7 @@
 -- The program status registers as words.
 use Prim.Native.Nat.{ℕ, _+_, _*_, _^_}
 use mathlib.Core.Bool.{Bool}
-use Rattle.word.specs.Fields.{bit-of, field-of}
+use Rattle.word.specs.Fields.{bit-of}
 use Rattle.word.specs.Sums.{one-if}
 use Rattle.word.specs.declared.flags.Flags.{Flags}
 use Rattle.arch.specs.declared.registers.Registers.{Registers}

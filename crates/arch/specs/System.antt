@@ -3,7 +3,7 @@ use Prim.Native.Nat.{ℕ, _+_, _*_}
 use mathlib.Core.Bool.{Bool, true, false, not, cond, _&&_}
 use lib.Signed.{ltZ}
 use Rattle.std.specs.declared.result.Result.the-variants.{Ok, Err}
-use Rattle.bus.specs.Program.{Program, done}
+use Rattle.bus.specs.Program.{done}
 use Rattle.bus.specs.declared.fault.Cause.the-variants.{Undefined, Breakpoint, SupervisorCallTooLow}
 use Rattle.word.specs.Addresses.{align-to}
 use Rattle.word.specs.Fields.{bit-of}

@@ -3,8 +3,8 @@ use Prim.Native.Nat.{ℕ, zero, suc, _+_, _*_, _%_, _^_}
 use mathlib.Core.Bool.{Bool, true, false, cond}
 use mathlib.Core.List.{List, [], _∷_}
 use lib.ListN.{length}
-use Rattle.std.specs.declared.result.Result.the-variants.{Ok, Err}
-use Rattle.bus.specs.Program.{Program, done}
+use Rattle.std.specs.declared.result.Result.the-variants.{Ok}
+use Rattle.bus.specs.Program.{done}
 use Rattle.bus.specs.declared.access.Right.{Right}
 use Rattle.bus.specs.declared.access.Width.{Width}
 use Rattle.bus.specs.declared.access.Width.the-variants.{Byte, Half, Word}

@@ -52,9 +52,6 @@ guarded-then Left p next only each = guarded-bind (λ a. Unit {0}) (λ a b. ⊥)
 
 -- One access.
 
-pub alike-refl : (w : World) → Alike w w
-alike-refl w = (refl, λ x readable. refl)
-
 -- an unprivileged access gets the same reply from alike worlds
 alike-reply : (w u : World) (a : Access) → a .right ≡ Unprivileged → Alike w u → reply w a ≡ reply u a
 alike-reply w u a low alike = go (w .verdict a) refl (is-write (a .usage)) refl ∙ ap (λ verdict. answer (verdict a) (replied (u .bytes) a)) (alike .0)

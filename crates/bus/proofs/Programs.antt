@@ -1,19 +1,10 @@
 -- Laws of programs of accesses.
-use mathlib.Core.Path.{_≡_, refl, ap, fun-ext}
+use mathlib.Core.Path.{_≡_, refl}
 use Rattle.bus.specs.Program.{World, Program, done, ask, bind, reply, left, run, Always}
 
 pub run-bind : {A B : Type 0} (p : Program A) (next : A → Program B) (w : World) → run (bind p next) w ≡ run (next (run p w .0)) (run p w .1)
 run-bind (done a) next w = refl
 run-bind (ask a v k) next w = run-bind (k (reply w a)) next (left w a v)
-
-pub bind-assoc : {A B C : Type 0} (p : Program A) (next : A → Program B) (last : B → Program C) → bind (bind p next) last ≡ bind p (λ a. bind (next a) last)
-bind-assoc (done a) next last = refl
-bind-assoc (ask a v k) next last = ap (ask a v) (fun-ext (λ r. bind-assoc (k r) next last))
-
--- no program changes a verdict
-pub verdicts-stay : {A : Type 0} (p : Program A) (w : World) → run p w .1 .verdict ≡ w .verdict
-verdicts-stay (done a) w = refl
-verdicts-stay (ask a v k) w = verdicts-stay (k (reply w a)) (left w a v)
 
 -- what always holds holds of the answer
 pub run-always : {A : Type 0} (P : A → Type 0) (p : Program A) (w : World) → Always P p → P (run p w .0)
@@ -24,10 +15,6 @@ run-always P (ask a v k) w h = run-always P (k (reply w a)) (left w a v) (h (rep
 pub always-all : {A : Type 0} (P : A → Type 0) (p : Program A) → ((a : A) → P a) → Always P p
 always-all P (done a) all = all a
 always-all P (ask a v k) all = λ r. always-all P (k r) all
-
-pub always-map : {A : Type 0} (P Q : A → Type 0) (p : Program A) → ((a : A) → P a → Q a) → Always P p → Always Q p
-always-map P Q (done a) weaker h = weaker a h
-always-map P Q (ask a v k) weaker h = λ r. always-map P Q (k r) weaker (h r)
 
 pub always-bind : {A B : Type 0} (P : A → Type 0) (Q : B → Type 0) (p : Program A) (next : A → Program B) → Always P p → ((a : A) → P a → Always Q (next a)) → Always Q (bind p next)
 always-bind P Q (done a) next h each = each a h

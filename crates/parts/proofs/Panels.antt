@@ -14,7 +14,7 @@ use Rattle.std.specs.declared.result.Result.the-variants.{Ok}
 use Rattle.bus.specs.Access.{is-write, bytes-of, within}
 use Rattle.bus.specs.Fault.{raised}
 use Rattle.bus.specs.Meaning.{refused-if, answer, after, replied, written}
-use Rattle.bus.specs.Memory.{Bytes, load, store}
+use Rattle.bus.specs.Memory.{load, store}
 use Rattle.bus.specs.declared.access.Access.{Access}
 use Rattle.bus.specs.declared.fault.Cause.the-variants.{Unmapped, WrongWidth}
 use Rattle.bus.proofs.Answer.{answer-allowed, answer-value, refused-if-none, read-answer, write-answer, write-leaves}

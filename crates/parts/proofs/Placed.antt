@@ -1,8 +1,7 @@
 -- Loads and stores in memory that is moved up to a base.
-use Prim.Native.Nat.{ℕ, zero, suc, _+_, _-_, _*_, _/_, _%_, _≤_}
-use mathlib.Core.Path.{_≡_, refl, sym, ap, _∙_, fun-ext}
+use Prim.Native.Nat.{ℕ, zero, suc, _+_, _-_, _/_, _%_, _≤_}
+use mathlib.Core.Path.{_≡_, refl, ap, _∙_, fun-ext}
 use native.Mathlib.Omega.{arith}
-use lib.Dec.{eqb, leb}
 use Rattle.std.proofs.shelf.Ways.{tells}
 use Rattle.bus.specs.Memory.{Bytes, with-byte, load, store}
 use Rattle.parts.specs.Strip.{placed}

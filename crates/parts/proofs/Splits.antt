@@ -1,12 +1,12 @@
 -- What a split answers and leaves, whichever of its buses is asked.
-use Prim.Native.Nat.{ℕ, _-_, _/_, _%_, _^_}
-use mathlib.Core.Bool.{Bool, true, false, not, cond}
-use mathlib.Core.Path.{_≡_, refl, sym, ap, ap₂, _∙_}
+use Prim.Native.Nat.{ℕ, _/_}
+use mathlib.Core.Bool.{Bool, true, false, cond}
+use mathlib.Core.Path.{_≡_, refl, ap, ap₂, _∙_}
 use lib.Dec.{ltb}
 use Rattle.std.specs.declared.option.Option.the-variants.{Some, None}
-use Rattle.bus.specs.Access.{is-write, bytes-of, within, misaligned, covers}
+use Rattle.bus.specs.Access.{is-write, bytes-of, misaligned, covers}
 use Rattle.bus.specs.Meaning.{Verdict, answer, after, lifted, replied, written}
-use Rattle.bus.specs.Memory.{Bytes, load, store}
+use Rattle.bus.specs.Memory.{Bytes, store}
 use Rattle.bus.specs.declared.access.Access.{Access}
 use Rattle.bus.proofs.Alignment.{same-word}
 use Rattle.bus.proofs.Memory.{load-agree, store-unique, store-byte, store-outside}

@@ -8,7 +8,7 @@ use Rattle.std.specs.declared.option.Option.the-variants.{None}
 use Rattle.std.specs.declared.result.Result.the-variants.{Ok}
 use Rattle.bus.specs.Access.{size, width-of, is-write, bytes-of}
 use Rattle.bus.specs.Meaning.{answer, after, replied, written}
-use Rattle.bus.specs.Memory.{Bytes, load, store}
+use Rattle.bus.specs.Memory.{load, store}
 use Rattle.bus.specs.declared.access.Access.{Access}
 use Rattle.bus.specs.declared.access.Width.{Width}
 use Rattle.bus.proofs.Answer.{answer-allowed, answer-value, refused-if-none, read-answer, write-answer, write-leaves}

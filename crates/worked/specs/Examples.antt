@@ -1,17 +1,16 @@
 -- Worked examples, each a step of a core from address 0 over memory that allows everything.
 use Prim.Native.Nat.{ℕ, _/_, _%_}
 use mathlib.Core.Bool.{Bool, true, false, cond}
-use mathlib.Core.List.{List, [], _∷_}
+use mathlib.Core.List.{_∷_}
 use mathlib.Core.Path.{_≡_}
 use lib.Dec.{eqb}
 use lib.ListN.{getD, replicate}
 use Rattle.std.specs.declared.option.Option.the-variants.{None}
 use Rattle.bus.specs.Fault.{cause-number}
 use Rattle.bus.specs.Program.{World, run}
-use Rattle.bus.specs.declared.fault.Fault.{Fault}
 use Rattle.word.specs.declared.flags.Flags.{Flags}
 use Rattle.arch.specs.Entry.{frame-of}
-use Rattle.arch.specs.Registers.{with-general, with-msp, with-primask}
+use Rattle.arch.specs.Registers.{with-general, with-primask}
 use Rattle.arch.specs.Return.{unstacked}
 use Rattle.arch.specs.Status.{frame-status}
 use Rattle.arch.specs.Step.{fresh, step}

@@ -1,4 +1,3 @@
-use mathlib.Core.Path.{refl, ap, _∙_}
 use Rattle.std.proofs.shelf.Results.{err-from-errBy}
 use Rattle.std.specs.declared.result.Result.the-variants.{Ok, Err}
 use Rattle.bus.specs.Program.{done, world-of}
