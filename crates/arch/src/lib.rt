@@ -1,4 +1,6 @@
 // The architecture: what a core holds, what is asked of it, what it answers, and what its steps mean.
+#![tactic(auto)]
+
 mod answers;
 mod registers;
 mod theorems;

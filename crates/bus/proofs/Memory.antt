@@ -1,5 +1,5 @@
 -- Laws of loading and storing, over the number of bytes.
-use Rattle.std.proofs.Common.{◌≡◌, ℕ, zero, suc, ◌+◌, ◌-◌, ◌*◌, ◌/◌, ◌%◌, ◌^◌, ◌<◌, ◌≤◌, Bool, true, false, cond, ◌⊎◌, sym, refl, ap, ◌∙◌, inl, inr, add-zero, pow-suc, div-one, arith, lit<}
+use Rattle.std.proofs.Common.{◌≡◌, ℕ, zero, suc, ◌+◌, ◌-◌, ◌/◌, ◌%◌, ◌^◌, ◌<◌, Bool, true, false, cond, ◌⊎◌, sym, refl, ap, ◌∙◌, inl, inr, add-zero, pow-suc, div-one, arith, lit<}
 use mathlib.Core.Path.{fun_ext}
 use native.Mathlib.Nat.{div-div-eq-div-mul, pow-zero, pow-succ', one-le-pow}
 use lib.Arith.{mod-mul}

@@ -1,7 +1,6 @@
 -- What an access is for, and which bytes it covers.
-use Rattle.std.specs.Prelude.{ℕ, zero, suc, ◌+◌, ◌%◌, ◌^◌, Bool, true, false, not, ◌&&◌, ◌==◌, nat_le, nat_lt}
+use Rattle.std.specs.Prelude.{ℕ, ◌+◌, ◌%◌, Bool, true, false, not, ◌&&◌, ◌==◌, nat_le, nat_lt}
 use Rattle.bus.specs.declared.access.Access.{Access}
-use Rattle.bus.specs.declared.access.Right.{Right}
 use Rattle.bus.specs.declared.access.Use.{Use}
 use Rattle.bus.specs.declared.access.Use.TheVariants.{Fetch, Read, Write}
 use Rattle.bus.specs.declared.access.Width.{Width}

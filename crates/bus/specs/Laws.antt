@@ -1,7 +1,7 @@
 -- What every kind of bus keeps.
 use Rattle.std.specs.Prelude.{◌≡◌, ℕ, ◌%◌, ◌<◌, ◌≤◌, Bool, true, false, cond, Some, None, refl}
 use Rattle.std.proofs.Common.{arith}
-use Rattle.std.specs.Borrow.{Bor}
+use Rattle.std.specs.Borrow.{MutBor}
 use Rattle.bus.specs.Access.{misaligned}
 use Rattle.bus.specs.Fault.{raised}
 use Rattle.bus.specs.Meaning.{Verdict, refused_if, lifted}
@@ -29,7 +29,7 @@ byte_or_none true n = omega arith
 byte_or_none false n = omega arith
 
 -- the laws of a bus are those of the bus when it is lent
-pub lent_laws : {S : Type 0} {kind : ℕ} {bytes : S → Bytes} {verdict : S → Access → Verdict} → Laws kind bytes verdict → Laws {S = Bor S} kind (λ s. bytes s.now) (λ s. verdict s.now)
+pub lent_laws : {S : Type 0} {kind : ℕ} {bytes : S → Bytes} {verdict : S → Access → Verdict} → Laws kind bytes verdict → Laws {S = MutBor S} kind (λ s. bytes s.now) (λ s. verdict s.now)
 lent_laws laws = record {
   byte = λ s. laws.byte s.now;
   alignment = λ s. laws.alignment s.now;

@@ -1,4 +1,6 @@
 // What a bus is: accesses, faults, and the rules that every bus keeps.
+#![tactic(auto)]
+
 mod access;
 mod fault;
 mod guarded;

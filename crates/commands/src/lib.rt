@@ -1,4 +1,6 @@
 // The lines of a script, as commands.
+#![tactic(auto)]
+
 mod parse;
 mod request;
 

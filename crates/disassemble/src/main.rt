@@ -1,6 +1,8 @@
 //! `disassemble [FILE [BASE]]` prints a raw Thumb image that begins at BASE, 0 unless it is given in hexadecimal:
 //! a line for each encoding, with its address, its halfwords, and its text or why it is refused.
 //! Without FILE it prints a heating schedule, which stands at 0x1000.
+#![tactic(auto)]
+
 mod schedule;
 
 use listing::print_image;

@@ -1,4 +1,6 @@
 //! Prints a raw Thumb image that it reads from its input: the stored sample of encodings and their texts.
+#![tactic(auto)]
+
 use listing::print_image;
 use std::io::Read;
 

@@ -1,5 +1,7 @@
 // The instructions that use the bus or the special registers: loads and stores, branches, the return from an exception,
 // calls to the system. Each is proved to make the accesses of its definition, in that order, over every bus.
+#![tactic(auto)]
+
 mod branches;
 mod flow;
 mod multiples;

@@ -1,4 +1,6 @@
 // A cellar hub's memory: builds it, plays a script of accesses on it, and reports.
+#![tactic(auto)]
+
 mod error;
 mod pile;
 mod play;

@@ -1,4 +1,6 @@
 // A cellar hub: runs its image turn by turn, or plays a script of accesses on its memory.
+#![tactic(auto)]
+
 ghost use Rattle.std.specs.Prelude.{◌≤◌, IfOk, vec_len};
 ghost use Rattle.options.specs.Counts.{Ranged};
 

@@ -1,4 +1,6 @@
 //! images/hub.bin, as tools/build-hub writes it here.
+#![tactic(auto)]
+
 
 pub const IMAGE: [u8; 2116] = [
     0, 32, 0, 32, 1, 1, 0, 0, 45, 1, 0, 0, 199, 1, 0, 0, 45, 1, 0, 0, 45, 1, 0, 0, 45, 1, 0, 0, 45,

@@ -1,4 +1,6 @@
 // Runs and temperatures, tried at their bounds.
+#![tactic(auto)]
+
 #[cfg(test)]
 mod tests {
     use arch::Answer;

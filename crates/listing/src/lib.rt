@@ -1,4 +1,6 @@
 //! Armv6-M instructions as text, in the unified assembler syntax as objdump prints it.
+#![tactic(auto)]
+
 ghost use Rattle.std.specs.Prelude.{◌≡◌, ◌+◌, ◌%◌, ◌^◌};
 ghost use Rattle.word.specs.Addresses.{align_to};
 

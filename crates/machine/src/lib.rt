@@ -1,4 +1,6 @@
 // A core on a hub's memory: one flat's turn, made by a list of calls or call by call.
+#![tactic(auto)]
+
 ghost use Rattle.std.specs.Prelude.{◌≡◌, IfOk};
 ghost use Rattle.bus.specs.Program.{run, world_of};
 ghost use Rattle.arch.specs.Step.{answer_to};

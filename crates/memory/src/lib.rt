@@ -1,4 +1,6 @@
 // The memory of a hub for two flats, and the regions that wall them off from each other.
+#![tactic(auto)]
+
 mod flats;
 mod pile;
 mod regions;

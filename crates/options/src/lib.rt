@@ -1,4 +1,6 @@
 // The words of the hub's command line.
+#![tactic(auto)]
+
 mod command;
 mod count;
 mod mistake;

@@ -1,4 +1,6 @@
 // The memory parts: each is a bus, proved against the meaning of one.
+#![tactic(auto)]
+
 mod hop;
 mod little_endian;
 mod panel;

@@ -1,4 +1,6 @@
 // Parts piled on one another, tried access by access.
+#![tactic(auto)]
+
 #[cfg(test)]
 mod tests {
     use bus::{Access, Bus, Refusal, Right, Use, Width};

@@ -1,4 +1,6 @@
 // Runs of steps and what they come to: tallies of the answers, and the panel's temperatures in tenths.
+#![tactic(auto)]
+
 mod answered;
 mod counts;
 mod fault_span;

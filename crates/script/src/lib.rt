@@ -1,4 +1,6 @@
 // Scripts of accesses: read, played on a hub's memory, and reported.
+#![tactic(auto)]
+
 mod play;
 mod report;
 mod story;

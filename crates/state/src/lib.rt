@@ -1,4 +1,6 @@
 // The registers of a core as instructions use them, and the instructions that need no bus.
+#![tactic(auto)]
+
 mod access;
 mod data;
 mod priorities;

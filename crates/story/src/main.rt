@@ -1,4 +1,6 @@
 // Plays the built-in script of accesses, as `hub script` does.
+#![tactic(auto)]
+
 use image::IMAGE;
 use memory::Trouble;
 

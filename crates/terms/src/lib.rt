@@ -1,4 +1,6 @@
 // What the hub's programs call things.
+#![tactic(auto)]
+
 mod calls;
 mod faults;
 

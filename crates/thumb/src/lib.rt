@@ -1,4 +1,6 @@
 //! What a Thumb halfword, or two, means in Armv6-M.
+#![tactic(auto)]
+
 ghost use Rattle.std.specs.Prelude.{◌≡◌};
 ghost use Rattle.thumb.specs.Decoded.{decoded, wide_first};
 ghost use Rattle.thumb.specs.Laws.{Apart, OperandsStand, ToldByItsTable};

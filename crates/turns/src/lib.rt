@@ -1,4 +1,6 @@
 // Turns: what the host asks of the core in one, whose it is, and what came of it.
+#![tactic(auto)]
+
 mod counting;
 mod degrees;
 mod planning;

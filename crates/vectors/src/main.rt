@@ -1,5 +1,7 @@
 //! Reads single instructions from its input, each with what an emulator that is not ours made of it, makes one step of
 //! each, and prints how many of each form agree and what differs. Anything that differs ends it with an error.
+#![tactic(auto)]
+
 mod case;
 mod comparison;
 mod hexadecimal;

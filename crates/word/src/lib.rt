@@ -1,4 +1,5 @@
 //! What Armv6-M instructions compute: pure functions on words, flags and sets of bits.
+#![tactic(auto)]
 
 mod addresses;
 mod bitwise;

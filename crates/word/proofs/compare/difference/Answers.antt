@@ -6,5 +6,5 @@ use Rattle.word.specs.Flags.{of_sum}
 
 pub returns : goal.returns
 returns c =
-    let value = c.add-with-carry.ensures.value in
+    let value = c.add_with_carry.ensures.value in
     record { value = value; orders = subst (Orders c.args.x c.args.y) (sym (ap of_sum value)) (orders c.args.x c.args.y (omega arith) (omega arith)) }

@@ -7,8 +7,8 @@ use Rattle.word.specs.Integers.{signed}
 pub returns : goal.returns
 returns c =
     let w : ℕ = c.args.width in
-    let low : ℕ = c.zero-extend-low.result in
-    let is = c.zero-extend-low.ensures in
+    let low : ℕ = c.zero_extend-low.result in
+    let is = c.zero_extend-low.ensures in
     let below : low < 2 ^ w = omega (arith, is, mod-lt c.args.x (pow_pos w)) in
     let value = extend_by_sub w 32 low (omega arith) (omega arith) below (omega arith) (sym c.if-not-bit.ensures) in
     record {

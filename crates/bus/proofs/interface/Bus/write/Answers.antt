@@ -14,7 +14,7 @@ returns g c =
     let n = size c.args.width in
     let x = c.args.address in
     let v = c.args.value in
-    let kept = c.in-ok-access.ensures in
+    let kept = c.in_ok-access.ensures in
     let stored = kept.contents ∙ ap (λ (w : Verdict). after w (store n m x v) m) (answer_allowed _ _ _ kept.value) in
     record {
       value = search rules;
