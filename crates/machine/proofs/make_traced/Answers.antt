@@ -7,17 +7,17 @@ use Rattle.cpu.proofs.Calling.{Underway, underway_none, underway_more, underway_
 use Rattle.machine.proofs.Troubles.{troubled}
 use Rattle.machine.proofs.make_traced.Goals as goal
 
-pub returns-in-err-push : goal.returns-in-err-push
-returns-in-err-push g c = record {
-  came = troubled c.from-residual-in-err-push.result _ _ _ c.from-residual-in-err-push.ensures.0;
-  settled = c.call-traced.ensures.settled ∙ c.loop-call.invariant.1 ∙ c.reset.ensures.settled;
+pub returns-in_err-push : goal.returns-in_err-push
+returns-in_err-push g c = record {
+  came = troubled c.from-residual-in_err-push.result _ _ _ c.from-residual-in_err-push.ensures.0;
+  settled = c.call_traced.ensures.settled ∙ c.loop-call.invariant.1 ∙ c.reset.ensures.settled;
 }
 
 pub loop-call-init : goal.loop-call-init
 loop-call-init g c =
     let bus = g.B.Bus in
     let fresh = machine c.reset.new.self.registers (world_of bus.bytes bus.verdict c.reset.new.bus) in
-    (underway_none c.args.calls.now fresh (vec_items c.in-ok-answers.answers) c.in-ok-answers.ensures.items, refl)
+    (underway_none c.args.calls.now fresh (vec_items c.in_ok-answers.answers) c.in_ok-answers.ensures.items, refl)
 
 pub loop-call-preserved : goal.loop-call-preserved
 loop-call-preserved g c =
@@ -25,14 +25,14 @@ loop-call-preserved g c =
     let calls = c.args.calls.now in
     let i = c.loop-call.call-index in
     let s = c.loop-call.core.registers in
-    let t = c.call-traced.new.core.registers in
+    let t = c.call_traced.new.core.registers in
     let fresh = machine c.reset.new.self.registers (world_of bus.bytes bus.verdict c.reset.new.bus) in
     let before = world_of bus.bytes bus.verdict c.loop-call.bus in
-    let after = world_of bus.bytes bus.verdict c.call-traced.new.bus in
+    let after = world_of bus.bytes bus.verdict c.call_traced.new.bus in
     let inv = c.loop-call.invariant in
     let items = vec_items c.loop-call.answers in
-    let made = c.in-ok-answer.ensures in (
-      subst (λ (rs : List Response). Underway calls fresh (i + 1) rs (machine t after)) (sym c.in-ok-push.ensures.items) (underway_more calls fresh i items s t before after c.in-ok-answer.answer c.loop-call-test.true made.runs inv.0),
+    let made = c.in_ok-answer.ensures in (
+      subst (λ (rs : List Response). Underway calls fresh (i + 1) rs (machine t after)) (sym c.in_ok-push.ensures.items) (underway_more calls fresh i items s t before after c.in_ok-answer.answer c.loop-call-test.true made.runs inv.0),
       made.settled ∙ inv.1,
     )
 
@@ -45,7 +45,7 @@ returns g c =
     let began = world_of bus.bytes bus.verdict c.reset.new.bus in
     let here = machine c.loop-call.core.registers (world_of bus.bytes bus.verdict c.loop-call.bus) in
     let inv = c.loop-call.invariant in
-    let reset = c.in-default.ensures in
+    let reset = c.in_default.ensures in
     let all = underway_all calls (machine fresh began) c.loop-call.call-index (vec_items c.loop-call.answers) here c.loop-call-test.false inv.0 in
     record {
       came = (machine fresh began, ap start_of reset.runs, record { answered = all.0; leaves = all.1; isolated = isolation_stands start began fresh calls reset.runs });

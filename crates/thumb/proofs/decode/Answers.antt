@@ -5,8 +5,8 @@ use Rattle.thumb.proofs.Laws.{narrow_apart, told_by_its_table, wide_apart}
 use Rattle.thumb.proofs.Stands.{operands_stand}
 use Rattle.thumb.proofs.decode.Goals as goal
 
-pub returns-then-is-wide : goal.returns-then-is-wide
-returns-then-is-wide c =
+pub returns-then-is_wide : goal.returns-then-is_wide
+returns-then-is_wide c =
     let e : c.wide.result ≡ decoded c.args.first c.args.second = grind (arith, nat_tests) in
     record {
       value = e;
@@ -15,8 +15,8 @@ returns-then-is-wide c =
       operands = operands_stand c.args.first c.args.second _ e;
     }
 
-pub returns-else-is-wide : goal.returns-else-is-wide
-returns-else-is-wide c =
+pub returns-else-is_wide : goal.returns-else-is_wide
+returns-else-is_wide c =
     let e : c.narrow.result ≡ decoded c.args.first c.args.second = grind (arith, nat_tests) in
     record {
       value = e;

@@ -4,18 +4,18 @@ use Rattle.arch.specs.Entry.{is_last, stack_frame, take}
 use Rattle.exec.proofs.Sequence.{run_on}
 use Rattle.cpu.proofs.entry.take_up.Goals as goal
 
-pub returns-then-is-last : goal.returns-then-is-last
-returns-then-is-last g c =
+pub returns-then-is_last : goal.returns-then-is_last
+returns-then-is_last g c =
     let bus = g.B.Bus in
     let s = c.args.r.now in
     let n = c.args.number in
-    let refused = c.stack-frame-refused.result in
+    let refused = c.stack_frame-refused.result in
     let before = world_of bus.bytes bus.verdict c.args.bus.now in
-    let between = world_of bus.bytes bus.verdict c.stack-frame-refused.new.bus in
-    let last = sym c.is-last.ensures ∙ c.if-is-last.true in
+    let between = world_of bus.bytes bus.verdict c.stack_frame-refused.new.bus in
+    let last = sym c.is_last.ensures ∙ c.if-is_last.true in
     record {
-      runs = run_on (stack_frame s) (take (is_last n) s n) before between refused c.stack-frame-refused.ensures.runs ∙ ap (λ (b : Bool). run (take b s n refused) between) last ∙ c.take-last.ensures.runs;
-      settled = c.take-last.ensures.settled ∙ c.stack-frame-refused.ensures.settled;
+      runs = run_on (stack_frame s) (take (is_last n) s n) before between refused c.stack_frame-refused.ensures.runs ∙ ap (λ (b : Bool). run (take b s n refused) between) last ∙ c.take_last.ensures.runs;
+      settled = c.take_last.ensures.settled ∙ c.stack_frame-refused.ensures.settled;
     }
 
 pub returns : goal.returns
@@ -23,11 +23,11 @@ returns g c =
     let bus = g.B.Bus in
     let s = c.args.r.now in
     let n = c.args.number in
-    let refused = c.stack-frame-refused.result in
+    let refused = c.stack_frame-refused.result in
     let before = world_of bus.bytes bus.verdict c.args.bus.now in
-    let between = world_of bus.bytes bus.verdict c.stack-frame-refused.new.bus in
-    let other = sym c.is-last.ensures ∙ c.if-is-last.false in
+    let between = world_of bus.bytes bus.verdict c.stack_frame-refused.new.bus in
+    let other = sym c.is_last.ensures ∙ c.if-is_last.false in
     record {
-      runs = run_on (stack_frame s) (take (is_last n) s n) before between refused c.stack-frame-refused.ensures.runs ∙ ap (λ (b : Bool). run (take b s n refused) between) other ∙ c.take-other.ensures.runs;
-      settled = c.take-other.ensures.settled ∙ c.stack-frame-refused.ensures.settled;
+      runs = run_on (stack_frame s) (take (is_last n) s n) before between refused c.stack_frame-refused.ensures.runs ∙ ap (λ (b : Bool). run (take b s n refused) between) other ∙ c.take_other.ensures.runs;
+      settled = c.take_other.ensures.settled ∙ c.stack_frame-refused.ensures.settled;
     }

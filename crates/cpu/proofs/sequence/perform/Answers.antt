@@ -45,7 +45,7 @@ returns g c =
     let began = world_of bus.bytes bus.verdict c.reset.new.bus in
     let here = machine c.loop-call.core.registers (world_of bus.bytes bus.verdict c.loop-call.bus) in
     let inv = c.loop-call.invariant in
-    let reset = c.in-default-reset.ensures in
+    let reset = c.in_default-reset.ensures in
     let all = underway_all calls (machine fresh began) c.loop-call.call-index (vec_items c.loop-call.answers) here c.loop-call-test.false inv.0 in
     record {
       performed = (machine fresh began, ap start_of reset.runs, record { answered = all.0; leaves = all.1; isolated = isolation_stands start began fresh calls reset.runs });

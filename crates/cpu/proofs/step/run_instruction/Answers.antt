@@ -38,7 +38,7 @@ returns-in-Err g c =
     let before = world_of bus.bytes bus.verdict c.args.bus.now in
     let after = world_of bus.bytes bus.verdict c.instruction.new.bus in
     let refused = c.in-Err.ensures in
-    let settled-as = c.settle-fault.ensures ∙ ap (λ (t : Registers). settle t (Err f)) refused.kept in
+    let settled-as = c.settle_fault.ensures ∙ ap (λ (t : Registers). settle t (Err f)) refused.kept in
     record {
       runs = run_on (instruction s) (λ r. done (settle s r)) before after (Err f) refused.runs ∙ ap (λ (x : Response × Registers). (x, after)) (sym settled-as);
       settled = refused.settled;

@@ -6,15 +6,15 @@ use Rattle.arch.specs.Return.{exception_return}
 use Rattle.exec.proofs.Sequence.{run_then}
 use Rattle.exec.proofs.branches.come_back.Goals as goal
 
-pub returns-in-err-exception-return : goal.returns-in-err-exception-return
-returns-in-err-exception-return g c =
+pub returns-in_err-exception_return : goal.returns-in_err-exception_return
+returns-in_err-exception_return g c =
     let bus = g.B.Bus in
     let before = world_of bus.bytes bus.verdict c.args.bus.now in
-    let after = world_of bus.bytes bus.verdict c.exception-return.new.bus in
-    let refused = c.in-err-exception-return.ensures in
+    let after = world_of bus.bytes bus.verdict c.exception_return.new.bus in
+    let refused = c.in_err-exception_return.ensures in
     let p = err_from_is_err_and c.from-residual.result c.from-residual.ensures.1 in
     rw (p.1, p.2) (record {
-      runs = run_then (exception_return c.args.r.now c.args.exc) (λ t. done (Ok (returned t))) before after (Err c.in-err-exception-return.field-0.0) refused.runs;
+      runs = run_then (exception_return c.args.r.now c.args.exc) (λ t. done (Ok (returned t))) before after (Err c.in_err-exception_return.field-0.0) refused.runs;
       kept = refused.kept;
       settled = refused.settled;
     })
@@ -23,10 +23,10 @@ pub returns : goal.returns
 returns g c =
     let bus = g.B.Bus in
     let before = world_of bus.bytes bus.verdict c.args.bus.now in
-    let after = world_of bus.bytes bus.verdict c.exception-return.new.bus in
-    let made = c.in-ok-exception-return.ensures in
+    let after = world_of bus.bytes bus.verdict c.exception_return.new.bus in
+    let made = c.in_ok-exception_return.ensures in
     record {
-      runs = run_then (exception_return c.args.r.now c.args.exc) (λ t. done (Ok (returned t))) before after (Ok c.exception-return.new.r) made.runs;
+      runs = run_then (exception_return c.args.r.now c.args.exc) (λ t. done (Ok (returned t))) before after (Ok c.exception_return.new.r) made.runs;
       kept = tt;
       settled = made.settled;
     }

@@ -8,19 +8,19 @@ use Rattle.arch.specs.declared.registers.Registers.{Registers}
 use Rattle.exec.proofs.Sequence.{run_then}
 use Rattle.exec.proofs.multiples.load_multiple.Goals as goal
 
-pub returns-in-err-load-registers : goal.returns-in-err-load-registers
-returns-in-err-load-registers g c =
+pub returns-in_err-load_registers : goal.returns-in_err-load_registers
+returns-in_err-load_registers g c =
     let bus = g.B.Bus in
     let s = c.args.r.now in
     let n = c.args.n in
     let list = c.args.list in
     let written = with_reg s n (plus (reg s n) (span list)) in
     let before = world_of bus.bytes bus.verdict c.args.bus.now in
-    let after = world_of bus.bytes bus.verdict c.load-registers.new.bus in
-    let refused = c.in-err-load-registers.ensures in
+    let after = world_of bus.bytes bus.verdict c.load_registers.new.bus in
+    let refused = c.in_err-load_registers.ensures in
     let p = err_from_is_err_and c.from-residual.result c.from-residual.ensures.1 in
     rw (p.1, p.2) (record {
-      runs = run_then (load_registers (right_of s) written (registers_of list) (reg s n)) (λ t. done (Ok (ran (moved_on 2 t)))) before after (Err c.in-err-load-registers.field-0.0) (rw (c.set-register.ensures, c.right-right.ensures, c.register-base.ensures, c.span.ensures.value) at refused.runs);
+      runs = run_then (load_registers (right_of s) written (registers_of list) (reg s n)) (λ t. done (Ok (ran (moved_on 2 t)))) before after (Err c.in_err-load_registers.field-0.0) (rw (c.set_register.ensures, c.right-right.ensures, c.register-base.ensures, c.span.ensures.value) at refused.runs);
       settled = refused.settled;
     })
 
@@ -32,9 +32,9 @@ returns g c =
     let list = c.args.list in
     let written = with_reg s n (plus (reg s n) (span list)) in
     let before = world_of bus.bytes bus.verdict c.args.bus.now in
-    let after = world_of bus.bytes bus.verdict c.load-registers.new.bus in
-    let made = c.in-ok-load-registers.ensures in
+    let after = world_of bus.bytes bus.verdict c.load_registers.new.bus in
+    let made = c.in_ok-load_registers.ensures in
     record {
-      runs = run_then (load_registers (right_of s) written (registers_of list) (reg s n)) (λ t. done (Ok (ran (moved_on 2 t)))) before after (Ok c.load-registers.new.r) (rw (c.set-register.ensures, c.right-right.ensures, c.register-base.ensures, c.span.ensures.value) at made.runs) ∙ ap (λ (t : Registers). (Ok (ran t), after)) (sym c.move-on.ensures);
+      runs = run_then (load_registers (right_of s) written (registers_of list) (reg s n)) (λ t. done (Ok (ran (moved_on 2 t)))) before after (Ok c.load_registers.new.r) (rw (c.set_register.ensures, c.right-right.ensures, c.register-base.ensures, c.span.ensures.value) at made.runs) ∙ ap (λ (t : Registers). (Ok (ran t), after)) (sym c.move_on.ensures);
       settled = made.settled;
     }

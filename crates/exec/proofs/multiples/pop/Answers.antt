@@ -6,17 +6,17 @@ use Rattle.arch.specs.Transfers.{registers_of, load_registers, pop_pc, span}
 use Rattle.exec.proofs.Sequence.{run_then}
 use Rattle.exec.proofs.multiples.pop.Goals as goal
 
-pub returns-in-err-load-registers : goal.returns-in-err-load-registers
-returns-in-err-load-registers g c =
+pub returns-in_err-load_registers : goal.returns-in_err-load_registers
+returns-in_err-load_registers g c =
     let bus = g.B.Bus in
     let s = c.args.r.now in
     let list = c.args.list in
     let before = world_of bus.bytes bus.verdict c.args.bus.now in
-    let after = world_of bus.bytes bus.verdict c.load-registers.new.bus in
-    let refused = c.in-err-load-registers.ensures in
+    let after = world_of bus.bytes bus.verdict c.load_registers.new.bus in
+    let refused = c.in_err-load_registers.ensures in
     let p = err_from_is_err_and c.from-residual.result c.from-residual.ensures.1 in
     rw (p.1, p.2) (record {
-      runs = run_then (load_registers (right_of s) s (registers_of list) (sp s)) (λ t. pop_pc c.args.pc (right_of s) t (plus (sp s) (span list))) before after (Err c.in-err-load-registers.field-0.0) (rw (c.right-right.ensures, c.stack-pointer-base.ensures) at refused.runs);
+      runs = run_then (load_registers (right_of s) s (registers_of list) (sp s)) (λ t. pop_pc c.args.pc (right_of s) t (plus (sp s) (span list))) before after (Err c.in_err-load_registers.field-0.0) (rw (c.right-right.ensures, c.stack_pointer-base.ensures) at refused.runs);
       settled = refused.settled;
     })
 
@@ -26,9 +26,9 @@ returns g c =
     let s = c.args.r.now in
     let list = c.args.list in
     let before = world_of bus.bytes bus.verdict c.args.bus.now in
-    let between = world_of bus.bytes bus.verdict c.load-registers.new.bus in
-    let made = c.in-ok-load-registers.ensures in
+    let between = world_of bus.bytes bus.verdict c.load_registers.new.bus in
+    let made = c.in_ok-load_registers.ensures in
     record {
-      runs = run_then (load_registers (right_of s) s (registers_of list) (sp s)) (λ t. pop_pc c.args.pc (right_of s) t (plus (sp s) (span list))) before between (Ok c.load-registers.new.r) (rw (c.right-right.ensures, c.stack-pointer-base.ensures) at made.runs) ∙ rw (c.right-right.ensures, c.stack-pointer-base.ensures, c.span.ensures.value) at c.pop-pc.ensures.runs;
-      settled = c.pop-pc.ensures.settled ∙ made.settled;
+      runs = run_then (load_registers (right_of s) s (registers_of list) (sp s)) (λ t. pop_pc c.args.pc (right_of s) t (plus (sp s) (span list))) before between (Ok c.load_registers.new.r) (rw (c.right-right.ensures, c.stack_pointer-base.ensures) at made.runs) ∙ rw (c.right-right.ensures, c.stack_pointer-base.ensures, c.span.ensures.value) at c.pop_pc.ensures.runs;
+      settled = c.pop_pc.ensures.settled ∙ made.settled;
     }

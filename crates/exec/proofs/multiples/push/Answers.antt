@@ -10,39 +10,39 @@ use Rattle.arch.specs.declared.registers.Registers.{Registers}
 use Rattle.exec.proofs.Sequence.{run_then}
 use Rattle.exec.proofs.multiples.push.Goals as goal
 
-pub returns-in-err-top : goal.returns-in-err-top
-returns-in-err-top g c =
+pub returns-in_err-top : goal.returns-in_err-top
+returns-in_err-top g c =
     let bus = g.B.Bus in
     let s = c.args.r.now in
     let list = c.args.list in
     let lr = c.args.lr in
     let base : ℕ = minus (sp s) (span list + 4 * one_if lr) in
     let before = world_of bus.bytes bus.verdict c.args.bus.now in
-    let after = world_of bus.bytes bus.verdict c.store-registers.new.bus in
-    let refused = c.in-err-top.ensures in
+    let after = world_of bus.bytes bus.verdict c.store_registers.new.bus in
+    let refused = c.in_err-top.ensures in
     let p = err_from_is_err_and c.from-residual.result c.from-residual.ensures.1 in
     rw (p.1, p.2) (record {
-      runs = run_then (store_registers s (registers_of list) base) (λ x. then (push_lr lr s x) (λ _. done (Ok (ran (moved_on 2 (with_sp s base)))))) before after (Err c.in-err-top.field-0.0) (rw c.push-base-base.ensures at refused.runs);
+      runs = run_then (store_registers s (registers_of list) base) (λ x. then (push_lr lr s x) (λ _. done (Ok (ran (moved_on 2 (with_sp s base)))))) before after (Err c.in_err-top.field-0.0) (rw c.push_base-base.ensures at refused.runs);
       kept = refl;
       settled = refused.settled;
     })
 
-pub returns-in-err-push-link : goal.returns-in-err-push-link
-returns-in-err-push-link g c =
+pub returns-in_err-push_link : goal.returns-in_err-push_link
+returns-in_err-push_link g c =
     let bus = g.B.Bus in
     let s = c.args.r.now in
     let list = c.args.list in
     let lr = c.args.lr in
     let base : ℕ = minus (sp s) (span list + 4 * one_if lr) in
     let before = world_of bus.bytes bus.verdict c.args.bus.now in
-    let between = world_of bus.bytes bus.verdict c.store-registers.new.bus in
-    let after = world_of bus.bytes bus.verdict c.push-link.new.bus in
-    let stored = c.in-ok-top.ensures in
-    let refused = c.in-err-push-link.ensures in
-    let p = err_from_is_err_and c.from-residual-in-err-push-link.result c.from-residual-in-err-push-link.ensures.1 in
+    let between = world_of bus.bytes bus.verdict c.store_registers.new.bus in
+    let after = world_of bus.bytes bus.verdict c.push_link.new.bus in
+    let stored = c.in_ok-top.ensures in
+    let refused = c.in_err-push_link.ensures in
+    let p = err_from_is_err_and c.from-residual-in_err-push_link.result c.from-residual-in_err-push_link.ensures.1 in
     rw (p.1, p.2) (record {
-      runs = run_then (store_registers s (registers_of list) base) (λ x. then (push_lr lr s x) (λ _. done (Ok (ran (moved_on 2 (with_sp s base)))))) before between (Ok c.in-ok-top.top) (rw c.push-base-base.ensures at stored.runs)
-          ∙ run_then (push_lr lr s c.in-ok-top.top) (λ _. done (Ok (ran (moved_on 2 (with_sp s base))))) between after (Err c.in-err-push-link.field-0.0) refused.runs;
+      runs = run_then (store_registers s (registers_of list) base) (λ x. then (push_lr lr s x) (λ _. done (Ok (ran (moved_on 2 (with_sp s base)))))) before between (Ok c.in_ok-top.top) (rw c.push_base-base.ensures at stored.runs)
+          ∙ run_then (push_lr lr s c.in_ok-top.top) (λ _. done (Ok (ran (moved_on 2 (with_sp s base))))) between after (Err c.in_err-push_link.field-0.0) refused.runs;
       kept = refl;
       settled = refused.settled ∙ stored.settled;
     })
@@ -55,14 +55,14 @@ returns g c =
     let lr = c.args.lr in
     let base : ℕ = minus (sp s) (span list + 4 * one_if lr) in
     let before = world_of bus.bytes bus.verdict c.args.bus.now in
-    let between = world_of bus.bytes bus.verdict c.store-registers.new.bus in
-    let after = world_of bus.bytes bus.verdict c.push-link.new.bus in
-    let stored = c.in-ok-top.ensures in
-    let linked = c.in-ok-push-link.ensures in
-    let left = c.move-on.ensures ∙ ap (moved_on 2) (c.set-stack-pointer.ensures ∙ ap (with_sp s) c.push-base-base.ensures) in
+    let between = world_of bus.bytes bus.verdict c.store_registers.new.bus in
+    let after = world_of bus.bytes bus.verdict c.push_link.new.bus in
+    let stored = c.in_ok-top.ensures in
+    let linked = c.in_ok-push_link.ensures in
+    let left = c.move_on.ensures ∙ ap (moved_on 2) (c.set_stack_pointer.ensures ∙ ap (with_sp s) c.push_base-base.ensures) in
     record {
-      runs = run_then (store_registers s (registers_of list) base) (λ x. then (push_lr lr s x) (λ _. done (Ok (ran (moved_on 2 (with_sp s base)))))) before between (Ok c.in-ok-top.top) (rw c.push-base-base.ensures at stored.runs)
-          ∙ run_then (push_lr lr s c.in-ok-top.top) (λ _. done (Ok (ran (moved_on 2 (with_sp s base))))) between after (Ok c.in-ok-push-link.field-0) linked.runs
+      runs = run_then (store_registers s (registers_of list) base) (λ x. then (push_lr lr s x) (λ _. done (Ok (ran (moved_on 2 (with_sp s base)))))) before between (Ok c.in_ok-top.top) (rw c.push_base-base.ensures at stored.runs)
+          ∙ run_then (push_lr lr s c.in_ok-top.top) (λ _. done (Ok (ran (moved_on 2 (with_sp s base))))) between after (Ok c.in_ok-push_link.field-0) linked.runs
           ∙ ap (λ (t : Registers). (Ok (ran t), after)) (sym left);
       kept = tt;
       settled = linked.settled ∙ stored.settled;

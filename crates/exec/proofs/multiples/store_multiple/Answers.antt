@@ -8,18 +8,18 @@ use Rattle.arch.specs.declared.registers.Registers.{Registers}
 use Rattle.exec.proofs.Sequence.{run_then}
 use Rattle.exec.proofs.multiples.store_multiple.Goals as goal
 
-pub returns-in-err-store-registers : goal.returns-in-err-store-registers
-returns-in-err-store-registers g c =
+pub returns-in_err-store_registers : goal.returns-in_err-store_registers
+returns-in_err-store_registers g c =
     let bus = g.B.Bus in
     let s = c.args.r.now in
     let n = c.args.n in
     let list = c.args.list in
     let before = world_of bus.bytes bus.verdict c.args.bus.now in
-    let after = world_of bus.bytes bus.verdict c.store-registers.new.bus in
-    let refused = c.in-err-store-registers.ensures in
+    let after = world_of bus.bytes bus.verdict c.store_registers.new.bus in
+    let refused = c.in_err-store_registers.ensures in
     let p = err_from_is_err_and c.from-residual.result c.from-residual.ensures.1 in
     rw (p.1, p.2) (record {
-      runs = run_then (store_registers s (registers_of list) (reg s n)) (λ _. done (Ok (ran (moved_on 2 (with_reg s n (plus (reg s n) (span list))))))) before after (Err c.in-err-store-registers.field-0.0) (rw c.register-base.ensures at refused.runs);
+      runs = run_then (store_registers s (registers_of list) (reg s n)) (λ _. done (Ok (ran (moved_on 2 (with_reg s n (plus (reg s n) (span list))))))) before after (Err c.in_err-store_registers.field-0.0) (rw c.register-base.ensures at refused.runs);
       kept = refl;
       settled = refused.settled;
     })
@@ -31,11 +31,11 @@ returns g c =
     let n = c.args.n in
     let list = c.args.list in
     let before = world_of bus.bytes bus.verdict c.args.bus.now in
-    let after = world_of bus.bytes bus.verdict c.store-registers.new.bus in
-    let made = c.in-ok-store-registers.ensures in
-    let left = c.move-on.ensures ∙ ap (moved_on 2) (c.set-register.ensures ∙ ap₂ (λ x k. with_reg s n (plus x k)) c.register-base.ensures c.span.ensures.value) in
+    let after = world_of bus.bytes bus.verdict c.store_registers.new.bus in
+    let made = c.in_ok-store_registers.ensures in
+    let left = c.move_on.ensures ∙ ap (moved_on 2) (c.set_register.ensures ∙ ap₂ (λ x k. with_reg s n (plus x k)) c.register-base.ensures c.span.ensures.value) in
     record {
-      runs = run_then (store_registers s (registers_of list) (reg s n)) (λ _. done (Ok (ran (moved_on 2 (with_reg s n (plus (reg s n) (span list))))))) before after (Ok c.in-ok-store-registers.field-0) (rw c.register-base.ensures at made.runs) ∙ ap (λ (t : Registers). (Ok (ran t), after)) (sym left);
+      runs = run_then (store_registers s (registers_of list) (reg s n)) (λ _. done (Ok (ran (moved_on 2 (with_reg s n (plus (reg s n) (span list))))))) before after (Ok c.in_ok-store_registers.field-0) (rw c.register-base.ensures at made.runs) ∙ ap (λ (t : Registers). (Ok (ran t), after)) (sym left);
       kept = tt;
       settled = made.settled;
     }

@@ -7,19 +7,19 @@ use Rattle.exec.proofs.Lists.{from_end, store_step}
 use Rattle.exec.proofs.Sequence.{run_then}
 use Rattle.exec.proofs.multiples.store_registers.Goals as goal
 
-pub returns-in-err-at : goal.returns-in-err-at
-returns-in-err-at g c =
+pub returns-in_err-at : goal.returns-in_err-at
+returns-in_err-at g c =
     let bus = g.B.Bus in
     let s = c.args.r.now in
     let list = c.args.list in
     let i = c.loop-i.i in
     let x = c.loop-i.at in
     let before = world_of bus.bytes bus.verdict c.loop-i.bus in
-    let after = world_of bus.bytes bus.verdict c.store-next.new.bus in
-    let refused = c.in-err-at.ensures in
+    let after = world_of bus.bytes bus.verdict c.store_next.new.bus in
+    let refused = c.in_err-at.ensures in
     let p = err_from_is_err_and c.from-residual.result c.from-residual.ensures.1 in
     rw (p.1, p.2) (record {
-      runs = sym c.loop-i.invariant.0 ∙ store_step s list i x before (omega arith) ∙ run_then (store_next s list i x) (store_registers s (registers_from (8 - (i + 1)) (i + 1) list)) before after (Err c.in-err-at.field-0.0) refused.runs;
+      runs = sym c.loop-i.invariant.0 ∙ store_step s list i x before (omega arith) ∙ run_then (store_next s list i x) (store_registers s (registers_from (8 - (i + 1)) (i + 1) list)) before after (Err c.in_err-at.field-0.0) refused.runs;
       settled = refused.settled ∙ c.loop-i.invariant.1;
     })
 
@@ -31,9 +31,9 @@ loop-i-preserved g c =
     let i = c.loop-i.i in
     let x = c.loop-i.at in
     let before = world_of bus.bytes bus.verdict c.loop-i.bus in
-    let after = world_of bus.bytes bus.verdict c.store-next.new.bus in
-    let made = c.in-ok-at.ensures in (
-      sym (run_then (store_next s list i x) (store_registers s (registers_from (8 - (i + 1)) (i + 1) list)) before after (Ok c.in-ok-at.at) made.runs) ∙ sym (store_step s list i x before (omega arith)) ∙ c.loop-i.invariant.0,
+    let after = world_of bus.bytes bus.verdict c.store_next.new.bus in
+    let made = c.in_ok-at.ensures in (
+      sym (run_then (store_next s list i x) (store_registers s (registers_from (8 - (i + 1)) (i + 1) list)) before after (Ok c.in_ok-at.at) made.runs) ∙ sym (store_step s list i x before (omega arith)) ∙ c.loop-i.invariant.0,
       made.settled ∙ c.loop-i.invariant.1,
     )
 

@@ -6,5 +6,5 @@ pub returns : goal.returns
 returns c =
     let first = c.args.first.now in
     let all = c.args.all.now in
-    ap (λ front. front ++ post_of 0 (length first - 0) all) c.copy-from-slice.ensures.after
+    ap (λ front. front ++ post_of 0 (length first - 0) all) c.copy_from_slice.ensures.after
     ∙ ap (λ rest. first ++ rest) (Post-is 0 (length first) all zero-le)

@@ -25,7 +25,7 @@ loop-response-preserved g c =
     let one = tally t.none t.one t.joined (answer_in response) in
     let rest = answers_in (drop (i + 1) responses) in
     let others = tally t.none t.one t.joined rest in
-    ap (λ x. t.joined x others) (c.join-sum.ensures ∙ ap (t.joined sum) c.tally-of-one.ensures)
+    ap (λ x. t.joined x others) (c.join-sum.ensures ∙ ap (t.joined sum) c.tally_of_one.ensures)
     ∙ laws.assoc sum one others
     ∙ ap (t.joined sum) (sym (tally_append t.none t.one t.joined laws (answer_in response) rest))
     ∙ ap (λ rs. t.joined sum (tally t.none t.one t.joined (answers_in rs))) (sym (drop_more responses i (Stepped Ran) c.loop-response-test.true))

@@ -43,7 +43,7 @@ returns g c =
           }
       | then-loop-steps-test+in-default w ↦
           let there : Machine = seen g w.step.new.self w.step.new.bus in
-          let turned = turned_away here there w.step.result w.step.ensures.runs w.in-default.field-0 w.in-default.is in
+          let turned = turned_away here there w.step.result w.step.ensures.runs w.in_default.field-0 w.in_default.is in
           let ends = whole_when_locked t.none t.one t.joined g.met.T.Tally.laws c.args.limit c.loop-steps.steps c.loop-steps.tally start here c.loop-steps.invariant.0 turned.0 in
           record {
             value = ends.0;

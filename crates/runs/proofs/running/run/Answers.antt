@@ -13,10 +13,10 @@ returns g c =
     let test : leb c.args.n longest ≡ true = le-leb _ _ fits in
     let start : Machine = machine c.args.core.now.registers (world_of g.B.Bus.bytes g.B.Bus.verdict c.args.bus.now) in
     record {
-      value = ap Ok c.make-steps.ensures.value ∙ sym (cond-true _ _ _ test);
-      leaves = c.make-steps.ensures.leaves ∙ sym (cond-true _ _ _ test);
-      stepwise = subst (Stepwise c.args.n start) (sym (ap (λ x. x.steps) c.make-steps.ensures.value)) (stepwise c.args.n start);
-      says = subst (λ x. g.T.Tally.Says x (answers c.args.n start)) (sym (ap (λ x. x.tally) c.make-steps.ensures.value)) (g.met.T.Tally.says (answers c.args.n start));
-      settled = c.make-steps.ensures.settled;
+      value = ap Ok c.make_steps.ensures.value ∙ sym (cond-true _ _ _ test);
+      leaves = c.make_steps.ensures.leaves ∙ sym (cond-true _ _ _ test);
+      stepwise = subst (Stepwise c.args.n start) (sym (ap (λ x. x.steps) c.make_steps.ensures.value)) (stepwise c.args.n start);
+      says = subst (λ x. g.T.Tally.Says x (answers c.args.n start)) (sym (ap (λ x. x.tally) c.make_steps.ensures.value)) (g.met.T.Tally.says (answers c.args.n start));
+      settled = c.make_steps.ensures.settled;
       refused = λ h. absurd (omega arith);
     }

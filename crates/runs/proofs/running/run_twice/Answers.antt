@@ -16,12 +16,12 @@ returns g c =
     let second_fits : c.args.second ≤ longest = omega arith in
     let test : (leb c.args.first longest && leb c.args.second longest) ≡ true = ap₂ ◌&&◌ (le-leb _ _ first_fits) (le-leb _ _ second_fits) in
     let start : Machine = machine c.args.core.now.registers (world_of g.B.Bus.bytes g.B.Bus.verdict c.args.bus.now) in
-    let front = c.make-steps-front.ensures in
-    let back = c.make-steps-back.ensures in
+    let front = c.make_steps-front.ensures in
+    let back = c.make_steps-back.ensures in
     let few : c.args.first + c.args.second < 2 ^ 32 = omega arith in
     let rest = back.value ∙ ap (λ m. outcome_of t.none t.one t.joined (answers c.args.second m)) front.leaves in
     record {
-      value = ap Ok (c.join-runs.ensures ∙ parts_make_whole t.none t.one t.joined g.met.T.Tally.laws c.args.first c.args.second start _ _ few front.value rest) ∙ sym (cond-true _ _ _ test);
+      value = ap Ok (c.join_runs.ensures ∙ parts_make_whole t.none t.one t.joined g.met.T.Tally.laws c.args.first c.args.second start _ _ few front.value rest) ∙ sym (cond-true _ _ _ test);
       leaves = (back.leaves ∙ ap (left c.args.second) front.leaves ∙ sym (joins c.args.first c.args.second start).leaves) ∙ sym (cond-true _ _ _ test);
       settled = back.settled ∙ front.settled;
       refused = λ h. absurd (omega arith);

@@ -14,6 +14,6 @@ pub returns-in-14 : goal.returns-in-14
 unfolding settled
 returns-in-14 c = by_prefix c.args.x 9 14 c.in-14.is (cc)
 
-pub returns-in-default : goal.returns-in-default
+pub returns-in_default : goal.returns-in_default
 unfolding settled
-returns-in-default c = by_prefix c.args.x 9 15 (omega arith) (cc)
+returns-in_default c = by_prefix c.args.x 9 15 (omega arith) (cc)

@@ -6,6 +6,6 @@ pub returns-in-352 : goal.returns-in-352
 unfolding settled
 returns-in-352 c = by_prefix c.args.x 7 352 c.in-352.is (cc)
 
-pub returns-in-default : goal.returns-in-default
+pub returns-in_default : goal.returns-in_default
 unfolding settled
-returns-in-default c = by_prefix c.args.x 7 353 (omega arith) (cc)
+returns-in_default c = by_prefix c.args.x 7 353 (omega arith) (cc)

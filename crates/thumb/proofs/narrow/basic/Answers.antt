@@ -31,6 +31,6 @@ pub returns-in-6 : goal.returns-in-6
 unfolding settled
 returns-in-6 c = by_prefix c.args.x 11 6 c.in-6.is (cc)
 
-pub returns-in-default : goal.returns-in-default
+pub returns-in_default : goal.returns-in_default
 unfolding settled
-returns-in-default c = by_prefix c.args.x 11 7 (omega arith) (cc)
+returns-in_default c = by_prefix c.args.x 11 7 (omega arith) (cc)

@@ -21,5 +21,5 @@ returns c =
       | goal.in-268 w ↦ by_prefix c.args.x 6 268 (omega arith) (cc)
       | goal.in-269 w ↦ by_prefix c.args.x 6 269 (omega arith) (cc)
       | goal.in-270 w ↦ by_prefix c.args.x 6 270 (omega arith) (cc)
-      | goal.in-default w ↦ by_prefix c.args.x 6 271 (omega arith) (cc)
+      | goal.in_default w ↦ by_prefix c.args.x 6 271 (omega arith) (cc)
     ]

@@ -11,6 +11,6 @@ pub returns-in-142 : goal.returns-in-142
 unfolding settled
 returns-in-142 c = by_prefix c.args.x 7 142 c.in-142.is (grind (arith, nat_tests))
 
-pub returns-in-default-2 : goal.returns-in-default-2
+pub returns-in_default-2 : goal.returns-in_default-2
 unfolding settled
-returns-in-default-2 c = by_prefix c.args.x 7 143 (omega arith) (grind (arith, nat_tests))
+returns-in_default-2 c = by_prefix c.args.x 7 143 (omega arith) (grind (arith, nat_tests))

@@ -9,5 +9,5 @@ returns c =
       | goal.in-712 w ↦ by_prefix c.args.x 6 712 (omega arith) (cc)
       | goal.in-713 w ↦ by_prefix c.args.x 6 713 (omega arith) (cc)
       | goal.in-714 w ↦ by_prefix c.args.x 6 714 (omega arith) (cc)
-      | goal.in-default w ↦ by_prefix c.args.x 6 715 (omega arith) (cc)
+      | goal.in_default w ↦ by_prefix c.args.x 6 715 (omega arith) (cc)
     ]

@@ -13,5 +13,5 @@ returns c =
       | goal.in-44 w ↦ by_prefix c.args.x 9 44 (omega arith) (cc)
       | goal.in-45 w ↦ by_prefix c.args.x 9 45 (omega arith) (cc)
       | goal.in-46 w ↦ by_prefix c.args.x 9 46 (omega arith) (cc)
-      | goal.in-default w ↦ by_prefix c.args.x 9 47 (omega arith) (cc)
+      | goal.in_default w ↦ by_prefix c.args.x 9 47 (omega arith) (cc)
     ]

@@ -20,8 +20,8 @@ others : (x : ℕ) → x / 2 ^ 12 ≡ 11 → among drawn (x / 2 ^ 8 % 2 ^ 4) ≡
 unfolding drawn_only
 others x h a = sym (undefined narrow_rows (above 12 11 ∷ []) 8 4 drawn refl x (h, tt) a)
 
-pub returns-in-default : goal.returns-in-default
-returns-in-default c = sym (others c.args.x c.requires (grind (arith, nat_tests)))
+pub returns-in_default : goal.returns-in_default
+returns-in_default c = sym (others c.args.x c.requires (grind (arith, nat_tests)))
 
-pub returns-in-default·2 : goal.returns-in-default·2
-returns-in-default·2 c = sym (others c.args.x c.requires (grind (arith, nat_tests)))
+pub returns-in_default-2 : goal.returns-in_default-2
+returns-in_default-2 c = sym (others c.args.x c.requires (grind (arith, nat_tests)))

@@ -11,6 +11,6 @@ pub returns-in-24 : goal.returns-in-24
 unfolding settled
 returns-in-24 c = by_prefix c.args.x 11 24 c.in-24.is (grind (arith, nat_tests))
 
-pub returns-in-default-2 : goal.returns-in-default-2
+pub returns-in_default-2 : goal.returns-in_default-2
 unfolding settled
-returns-in-default-2 c = by_prefix c.args.x 11 25 (omega arith) (grind (arith, nat_tests))
+returns-in_default-2 c = by_prefix c.args.x 11 25 (omega arith) (grind (arith, nat_tests))

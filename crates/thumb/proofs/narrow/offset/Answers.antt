@@ -30,6 +30,6 @@ pub returns-in-18 : goal.returns-in-18
 unfolding settled
 returns-in-18 c = by_prefix c.args.x 11 18 c.in-18.is (cc)
 
-pub returns-in-default : goal.returns-in-default
+pub returns-in_default : goal.returns-in_default
 unfolding settled
-returns-in-default c = by_prefix c.args.x 11 19 (omega arith) (cc)
+returns-in_default c = by_prefix c.args.x 11 19 (omega arith) (cc)

@@ -12,5 +12,5 @@ returns c =
     elim c.match-x-shr6.branch [
       | goal.in-744 w ↦ by_prefix c.args.x 6 744 (omega arith) (cc)
       | goal.in-745 w ↦ by_prefix c.args.x 6 745 (omega arith) (cc)
-      | goal.in-default w ↦ by_prefix c.args.x 6 747 (omega arith) (cc)
+      | goal.in_default w ↦ by_prefix c.args.x 6 747 (omega arith) (cc)
     ]

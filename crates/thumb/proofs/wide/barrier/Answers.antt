@@ -16,9 +16,9 @@ by_op : (x op : ℕ) → Holds x (control 20 3899) → x / 2 ^ 4 % 2 ^ 4 ≡ op 
     → r ≡ settled wide_rows (slice 4 4 op ∷ control 20 3899) x → r ≡ decoded_wide x
 by_op x op h k e = settles wide_rows (slice 4 4 op ∷ control 20 3899) x (k, h) e
 
-pub returns-in-default : goal.returns-in-default
+pub returns-in_default : goal.returns-in_default
 unfolding drawn_only
-returns-in-default c =
+returns-in_default c =
     undefined wide_rows (control 20 3899) 4 4 (4 ∷ 5 ∷ 6 ∷ []) refl c.args.x
     (c.if-x-ne3899.false, (c.requires.1.0, (c.requires.1.1, tt))) (grind (arith, nat_tests))
 

@@ -5,7 +5,7 @@ use Rattle.turns.proofs.planning.plan.Goals as goal
 
 pub loop-made-init : goal.loop-made-init
 loop-made-init c =
-    c.in-ok-extend-from-slice.ensures.items
+    c.in_ok-extend_from_slice.ensures.items
     ∙ ap (λ calls. calls ++ opening) c.new-calls.ensures.items
     ∙ ap (λ calls. opening ++ calls) (sym (no_steps c.args.tick (c.args.steps / 2)))
 
@@ -13,9 +13,9 @@ pub loop-made-preserved : goal.loop-made-preserved
 loop-made-preserved c =
     let middle = c.args.steps / 2 in
     let made = c.loop-made.made in
-    c.in-ok-extend-from-slice-2.ensures.items
-    ∙ ap (λ calls. calls ++ c.step-with-due.result.now) c.loop-made.invariant
-    ∙ ap (λ calls. opening ++ (first_steps c.args.tick middle made ++ calls)) c.step-with-due.ensures
+    c.in_ok-extend_from_slice-2.ensures.items
+    ∙ ap (λ calls. calls ++ c.step_with_due.result.now) c.loop-made.invariant
+    ∙ ap (λ calls. opening ++ (first_steps c.args.tick middle made ++ calls)) c.step_with_due.ensures
     ∙ ap (λ calls. opening ++ calls) (sym (more_steps c.args.tick middle made))
 
 pub returns : goal.returns

@@ -6,7 +6,7 @@ use Rattle.cpu.proofs.processor.Core.reset.Goals as goal
 pub invariant-of-self : goal.invariant-of-self
 invariant-of-self g c =
     let bus = g.B.Bus in
-    let s = c.in-ok-self.field-0 in
+    let s = c.in_ok-self.field-0 in
     let before = world_of bus.bytes bus.verdict c.args.bus.now in
     let after = world_of bus.bytes bus.verdict c.boot.new.bus in
-    keeps s (begins before after s c.in-ok-self.ensures.runs).0
+    keeps s (begins before after s c.in_ok-self.ensures.runs).0

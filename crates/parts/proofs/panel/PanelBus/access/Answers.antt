@@ -6,13 +6,13 @@ use Rattle.parts.specs.Panel.{panel_bytes, panel_verdict}
 use Rattle.parts.proofs.Panels.{panel_read, panel_wrote, panel_write}
 use Rattle.parts.proofs.panel.PanelBus.access.Goals as goal
 
-pub returns-then-is-write : goal.returns-then-is-write
-returns-then-is-write c =
+pub returns-then-is_write : goal.returns-then-is_write
+returns-then-is_write c =
     let p = c.args.self.now in
     let a = c.args.access in
-    let at = c.in-ok-at.at in
-    let begins = c.in-ok-at.ensures in
-    let writes = sym c.if-is-write.ensures in
+    let at = c.in_ok-at.at in
+    let begins = c.in_ok-at.ensures in
+    let writes = sym c.if-is_write.ensures in
     let short : at < length p.words = search rules in
     record {
       value = panel_wrote p a at begins writes;
@@ -25,9 +25,9 @@ pub returns : goal.returns
 returns c =
     let p = c.args.self.now in
     let a = c.args.access in
-    let at = c.in-ok-at.at in
-    let begins = c.in-ok-at.ensures in
-    let reads = sym c.if-is-write.ensures in
+    let at = c.in_ok-at.at in
+    let begins = c.in_ok-at.ensures in
+    let reads = sym c.if-is_write.ensures in
     record {
       value = panel_read p a at begins c.value.result reads c.value.ensures c.value.type-inv;
       contents = read_leaves (panel_verdict p a) (panel_bytes p) a c.args.value reads;
@@ -35,13 +35,13 @@ returns c =
       settled = search rules;
     }
 
-pub returns-in-err-at : goal.returns-in-err-at
-returns-in-err-at c =
+pub returns-in_err-at : goal.returns-in_err-at
+returns-in_err-at c =
     let s = c.args.self.now in
     let a = c.args.access in
     let p = err_from_is_err_and c.from-residual.result c.from-residual.ensures.1 in
-    let f = c.in-err-at.field-0.0 in
-    let refused = c.in-err-at.ensures in
+    let f = c.in_err-at.field-0.0 in
+    let refused = c.in_err-at.ensures in
     rw (p.1, p.2) (record {
       value = refused_answer (panel_verdict s a) (a.address % 64 / 4) (replied (panel_bytes s) a) f refused;
       contents = refused_leaves (panel_verdict s a) (a.address % 64 / 4) (written (panel_bytes s) a c.args.value) (panel_bytes s) f refused;

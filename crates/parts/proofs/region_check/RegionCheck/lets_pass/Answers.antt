@@ -9,7 +9,7 @@ returns g c =
     let regions = c.args.self.now.table.regions in
     let background = c.args.self.now.background in
     let a = c.args.access in
-    let passed = c.passes-regions.ensures in
+    let passed = c.passes_regions.ensures in
     record {
       value = passed;
       uncovered = λ none. passed ∙ ap (λ o. passes_by o regions background a) (greatest_of_none (covered_by regions a.address) (length regions) none);

@@ -20,7 +20,7 @@ returns-then-access-self g c =
     let side : below limit a.address ≡ true = search rules in
     let done = c.access.ensures in
     record {
-      value = c.hand-up.ensures ∙ ap handed_up_answer done.value ∙ split_value limit w₁ w₂ a true aligned side m₁ m₂;
+      value = c.hand_up.ensures ∙ ap handed_up_answer done.value ∙ split_value limit w₁ w₂ a true aligned side m₁ m₂;
       contents = split_contents limit w₁ w₂ a true aligned side m₁ m₂ (g.L.Bus.bytes c.access.new.self) m₂ c.args.value refl done.contents;
       verdicts = ap (λ (w : Access → Verdict). split_verdict limit w w₂) done.verdicts;
       settled = search rules;
@@ -39,7 +39,7 @@ returns-else-access-self g c =
     let side : below limit a.address ≡ false = search rules in
     let done = c.access-else-access-self.ensures in
     record {
-      value = c.hand-up-else-access-self.ensures ∙ ap handed_up_answer done.value ∙ split_value limit w₁ w₂ a false aligned side m₁ m₂;
+      value = c.hand_up-else-access-self.ensures ∙ ap handed_up_answer done.value ∙ split_value limit w₁ w₂ a false aligned side m₁ m₂;
       contents = split_contents limit w₁ w₂ a false aligned side m₁ m₂ m₁ (g.U.Bus.bytes c.access-else-access-self.new.self) c.args.value refl done.contents;
       verdicts = ap (λ (w : Access → Verdict). split_verdict limit w₁ w) done.verdicts;
       settled = search rules;
