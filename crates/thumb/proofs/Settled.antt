@@ -1,5 +1,5 @@
 -- What a few known bits settle: which row of a table fits, by computation.
-use Rattle.std.proofs.Common.{◌≡◌, ℕ, ◌/◌, ◌%◌, ◌^◌, cond, List, [], ◌∷◌, Err, sym, refl, ap, ◌∙◌}
+use Rattle.std.proofs.Common.{◌≡◌, ℕ, ◌/◌, ◌^◌, cond, List, [], ◌∷◌, Err, sym, refl, ap, ◌∙◌}
 use mathlib.Core.Path.{fun_ext}
 use Prim.Native.String.{String}
 use Rattle.thumb.specs.Diagram.{Bits, bits_of, letter, agrees, spelled}

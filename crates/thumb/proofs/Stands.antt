@@ -1,5 +1,5 @@
 -- Every register that a row names is below 16, and every list is one of eight registers and not empty.
-use Rattle.std.proofs.Common.{◌≡◌, ℕ, ◌+◌, ◌*◌, ◌%◌, ◌^◌, ◌<◌, ◌≤◌, Bool, true, false, cond, ◌&&◌, ◌||◌, eqb, leb, List, [], ◌∷◌, length, Some, None, Ok, Err, Option, sym, refl, ◌∙◌, subst, lt_of_lt_of_le, mod-lt, mul_comm, arith, lit<, pow_mono, pow-add, leb-true}
+use Rattle.std.proofs.Common.{◌≡◌, ℕ, ◌+◌, ◌*◌, ◌^◌, ◌<◌, Bool, true, false, cond, ◌&&◌, ◌||◌, eqb, leb, List, [], ◌∷◌, length, Some, None, Ok, Err, Option, sym, refl, ◌∙◌, subst, lt_of_lt_of_le, mod-lt, mul_comm, arith, lit<, pow_mono, pow-add, leb-true}
 use Prim.Native.String.{String}
 use Rattle.std.proofs.lemmas.Nat.{mul-add-lt}
 use Rattle.std.proofs.lemmas.Bool.{and_parts}
@@ -15,7 +15,7 @@ use Rattle.thumb.specs.declared.instructions.Instruction.TheVariants.{Basic, Sys
 use Rattle.thumb.specs.declared.instructions.Basic.TheVariants as basic
 use Rattle.thumb.specs.declared.instructions.SpecialRegister.{SpecialRegister}
 use Rattle.thumb.specs.declared.instructions.System.{System as System-op}
-use Rattle.thumb.specs.declared.instructions.Refusal.TheVariants.{Undefined, Unpredictable}
+use Rattle.thumb.specs.declared.instructions.Refusal.TheVariants.{Unpredictable}
 
 abbrev Binary : Bits → Type 0
 Binary b = (j : ℕ) → b j < 2

@@ -2,7 +2,7 @@
 use Rattle.std.proofs.Common.{◌≡◌, ℕ, zero, suc, ◌/◌, ◌%◌, ◌^◌, ◌<◌, Bool, true, false, cond, not, ◌&&◌, ◌||◌, eqb, List, [], ◌∷◌, length, Err, sym, refl, ◌∙◌, mod-lt, pow_pos, eq-eqb, eqb-true}
 use Rattle.std.proofs.lemmas.Bool.{and_from, and_parts, both_ways, not-true}
 use Rattle.std.proofs.lemmas.Bool.Decides.{Decides-below_and}
-use Rattle.thumb.specs.Diagram.{Bits, bits_of, letter, agrees}
+use Rattle.thumb.specs.Diagram.{bits_of, letter, agrees}
 use Rattle.thumb.specs.Rows.{Row, narrow_rows, wide_rows}
 use Rattle.thumb.specs.Decoded.{fits, answer, lookup}
 use Rattle.thumb.specs.declared.instructions.Refusal.TheVariants.{Undefined}

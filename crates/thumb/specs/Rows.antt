@@ -21,7 +21,7 @@ use Rattle.thumb.specs.declared.instructions.SpecialRegister.{SpecialRegister}
 use Rattle.thumb.specs.declared.instructions.System.{System as System-op}
 use Rattle.thumb.specs.declared.instructions.System.TheVariants.{Svc, Bkpt, Udf, UdfWide, Cps, Hint, Dsb, Dmb, Isb, Mrs, Msr}
 use Rattle.thumb.specs.declared.instructions.Refusal.{Refusal}
-use Rattle.thumb.specs.declared.instructions.Refusal.TheVariants.{Undefined, Unpredictable}
+use Rattle.thumb.specs.declared.instructions.Refusal.TheVariants.{Unpredictable}
 
 abbrev pub Answer : Type 0
 Answer = Result Instruction Refusal
