@@ -9,7 +9,7 @@ use Rattle.machine.proofs.make_traced.Goals as goal
 
 pub returns-in_err-push : goal.returns-in_err-push
 returns-in_err-push g c = record {
-  came = troubled c.from-residual-in_err-push.result _ _ _ c.from-residual-in_err-push.ensures.0;
+  came = troubled c.from_residual-in_err-push.result _ _ _ c.from_residual-in_err-push.ensures.0;
   settled = c.call_traced.ensures.settled ∙ c.loop-call.invariant.1 ∙ c.reset.ensures.settled;
 }
 

@@ -12,7 +12,7 @@ returns-in_err-exception_return g c =
     let before = world_of bus.bytes bus.verdict c.args.bus.now in
     let after = world_of bus.bytes bus.verdict c.exception_return.new.bus in
     let refused = c.in_err-exception_return.ensures in
-    let p = err_from_is_err_and c.from-residual.result c.from-residual.ensures.1 in
+    let p = err_from_is_err_and c.from_residual.result c.from_residual.ensures.1 in
     rw (p.1, p.2) (record {
       runs = run_then (exception_return c.args.r.now c.args.exc) (λ t. done (Ok (returned t))) before after (Err c.in_err-exception_return.field-0.0) refused.runs;
       kept = refused.kept;

@@ -18,7 +18,7 @@ returns-in_err-load_registers g c =
     let before = world_of bus.bytes bus.verdict c.args.bus.now in
     let after = world_of bus.bytes bus.verdict c.load_registers.new.bus in
     let refused = c.in_err-load_registers.ensures in
-    let p = err_from_is_err_and c.from-residual.result c.from-residual.ensures.1 in
+    let p = err_from_is_err_and c.from_residual.result c.from_residual.ensures.1 in
     rw (p.1, p.2) (record {
       runs = run_then (load_registers (right_of s) written (registers_of list) (reg s n)) (λ t. done (Ok (ran (moved_on 2 t)))) before after (Err c.in_err-load_registers.field-0.0) (rw (c.set_register.ensures, c.right-right.ensures, c.register-base.ensures, c.span.ensures.value) at refused.runs);
       settled = refused.settled;

@@ -18,7 +18,7 @@ returns-in_err-at g c =
     let before = world_of bus.bytes bus.verdict c.loop-i.bus in
     let after = world_of bus.bytes bus.verdict c.load_next.new.bus in
     let refused = c.in_err-at.ensures in
-    let p = err_from_is_err_and c.from-residual.result c.from-residual.ensures.1 in
+    let p = err_from_is_err_and c.from_residual.result c.from_residual.ensures.1 in
     rw (p.1, p.2) (record {
       runs = sym c.loop-i.invariant.0 ∙ load_step right t list i x before (omega arith) ∙ run_then (load_next right t list i x) (load_rest right (registers_from (8 - (i + 1)) (i + 1) list)) before after (Err c.in_err-at.field-0.0) refused.runs;
       settled = refused.settled ∙ c.loop-i.invariant.1;

@@ -20,7 +20,7 @@ returns-in_err-top g c =
     let before = world_of bus.bytes bus.verdict c.args.bus.now in
     let after = world_of bus.bytes bus.verdict c.store_registers.new.bus in
     let refused = c.in_err-top.ensures in
-    let p = err_from_is_err_and c.from-residual.result c.from-residual.ensures.1 in
+    let p = err_from_is_err_and c.from_residual.result c.from_residual.ensures.1 in
     rw (p.1, p.2) (record {
       runs = run_then (store_registers s (registers_of list) base) (λ x. then (push_lr lr s x) (λ _. done (Ok (ran (moved_on 2 (with_sp s base)))))) before after (Err c.in_err-top.field-0.0) (rw c.push_base-base.ensures at refused.runs);
       kept = refl;
@@ -39,7 +39,7 @@ returns-in_err-push_link g c =
     let after = world_of bus.bytes bus.verdict c.push_link.new.bus in
     let stored = c.in_ok-top.ensures in
     let refused = c.in_err-push_link.ensures in
-    let p = err_from_is_err_and c.from-residual-in_err-push_link.result c.from-residual-in_err-push_link.ensures.1 in
+    let p = err_from_is_err_and c.from_residual-in_err-push_link.result c.from_residual-in_err-push_link.ensures.1 in
     rw (p.1, p.2) (record {
       runs = run_then (store_registers s (registers_of list) base) (λ x. then (push_lr lr s x) (λ _. done (Ok (ran (moved_on 2 (with_sp s base)))))) before between (Ok c.in_ok-top.top) (rw c.push_base-base.ensures at stored.runs)
           ∙ run_then (push_lr lr s c.in_ok-top.top) (λ _. done (Ok (ran (moved_on 2 (with_sp s base))))) between after (Err c.in_err-push_link.field-0.0) refused.runs;

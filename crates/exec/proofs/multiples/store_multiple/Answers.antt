@@ -17,7 +17,7 @@ returns-in_err-store_registers g c =
     let before = world_of bus.bytes bus.verdict c.args.bus.now in
     let after = world_of bus.bytes bus.verdict c.store_registers.new.bus in
     let refused = c.in_err-store_registers.ensures in
-    let p = err_from_is_err_and c.from-residual.result c.from-residual.ensures.1 in
+    let p = err_from_is_err_and c.from_residual.result c.from_residual.ensures.1 in
     rw (p.1, p.2) (record {
       runs = run_then (store_registers s (registers_of list) (reg s n)) (λ _. done (Ok (ran (moved_on 2 (with_reg s n (plus (reg s n) (span list))))))) before after (Err c.in_err-store_registers.field-0.0) (rw c.register-base.ensures at refused.runs);
       kept = refl;

@@ -14,7 +14,7 @@ returns-in_err-lower g c =
     let x = c.args.x in
     let before = world_of bus.bytes bus.verdict c.args.bus.now in
     let after = world_of bus.bytes bus.verdict c.read_four.new.bus in
-    let p = err_from_is_err_and c.from-residual.result c.from-residual.ensures.1 in
+    let p = err_from_is_err_and c.from_residual.result c.from_residual.ensures.1 in
     rw (p.1, p.2) (record {
       runs = run_then (read_four right x) (λ low. read_upper right low (plus x 16)) before after (Err c.in_err-lower.field-0.0) c.in_err-lower.ensures.runs;
       settled = c.in_err-lower.ensures.settled;

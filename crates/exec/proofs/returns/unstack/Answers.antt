@@ -15,7 +15,7 @@ returns-in_err-frame g c =
     let exc = c.args.exc in
     let before = world_of bus.bytes bus.verdict c.args.bus.now in
     let after = world_of bus.bytes bus.verdict c.read_frame.new.bus in
-    let p = err_from_is_err_and c.from-residual.result c.from-residual.ensures.1 in
+    let p = err_from_is_err_and c.from_residual.result c.from_residual.ensures.1 in
     let refused = rw (c.frame_right.ensures, c.frame_pointer.ensures) at c.in_err-frame.ensures.runs in
     rw (p.1, p.2) (record {
       runs = run_then (read_frame (right_if (not (forced_thread s exc))) (frame_pointer s exc)) (judged s exc) before after (Err c.in_err-frame.field-0.0) refused;

@@ -16,5 +16,5 @@ pub returns-in-Word : goal.returns-in-Word
 returns-in-Word c =
     let xs = c.args.bytes.now in
     let x = c.args.at in
-    let byte : (i : ℕ) → get_or xs i 0 % 256 ≡ get_or xs i 0 = λ i. omega (arith, c.type-inv.bytes i) in
+    let byte : (i : ℕ) → get_or xs i 0 % 256 ≡ get_or xs i 0 = λ i. omega (arith, c.type_inv.bytes i) in
     rw c.in-Word.is (omega (arith, load_word (listed xs) x, byte x, byte (x + 1), byte (x + 2), byte (x + 3)))

@@ -3,8 +3,8 @@ use Rattle.arch.proofs.Isolating.{begins}
 use Rattle.cpu.proofs.Keeping.{keeps}
 use Rattle.cpu.proofs.processor.Core.reset.Goals as goal
 
-pub invariant-of-self : goal.invariant-of-self
-invariant-of-self g c =
+pub invariant_of-self : goal.invariant_of-self
+invariant_of-self g c =
     let bus = g.B.Bus in
     let s = c.in_ok-self.field-0 in
     let before = world_of bus.bytes bus.verdict c.args.bus.now in

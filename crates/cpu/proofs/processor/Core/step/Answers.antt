@@ -3,8 +3,8 @@ use Rattle.cpu.specs.Responses.{stepped}
 use Rattle.cpu.proofs.Keeping.{sound_core, keeps, step_sound, step_kept}
 use Rattle.cpu.proofs.processor.Core.step.Goals as goal
 
-pub invariant-of-self : goal.invariant-of-self
-invariant-of-self g c =
+pub invariant_of-self : goal.invariant_of-self
+invariant_of-self g c =
     let bus = g.B.Bus in
     let before = world_of bus.bytes bus.verdict c.args.bus.now in
     let after = world_of bus.bytes bus.verdict c.step.new.bus in

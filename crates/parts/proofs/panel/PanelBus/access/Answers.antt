@@ -29,7 +29,7 @@ returns c =
     let begins = c.in_ok-at.ensures in
     let reads = sym c.if-is_write.ensures in
     record {
-      value = panel_read p a at begins c.value.result reads c.value.ensures c.value.type-inv;
+      value = panel_read p a at begins c.value.result reads c.value.ensures c.value.type_inv;
       contents = read_leaves (panel_verdict p a) (panel_bytes p) a c.args.value reads;
       verdicts = search rules;
       settled = search rules;
@@ -39,7 +39,7 @@ pub returns-in_err-at : goal.returns-in_err-at
 returns-in_err-at c =
     let s = c.args.self.now in
     let a = c.args.access in
-    let p = err_from_is_err_and c.from-residual.result c.from-residual.ensures.1 in
+    let p = err_from_is_err_and c.from_residual.result c.from_residual.ensures.1 in
     let f = c.in_err-at.field-0.0 in
     let refused = c.in_err-at.ensures in
     rw (p.1, p.2) (record {

@@ -38,7 +38,7 @@ pub returns-in_err-at : goal.returns-in_err-at
 returns-in_err-at c =
     let s = c.args.self.now in
     let a = c.args.access in
-    let p = err_from_is_err_and c.from-residual.result c.from-residual.ensures.1 in
+    let p = err_from_is_err_and c.from_residual.result c.from_residual.ensures.1 in
     let f = c.in_err-at.field-0.0 in
     let refused = c.in_err-at.ensures in
     rw (p.1, p.2) (record {
