@@ -1,5 +1,5 @@
 -- A panel: sixteen words in a block of 64 bytes.
-use Rattle.std.specs.Prelude.{◌≡◌, ℕ, ◌*◌, ◌/◌, ◌%◌, ◌^◌, Bool, true, false, cond, not, replicate, None, Ok, Err, Result, ◌==◌, slice_index}
+use Rattle.std.specs.Prelude.{ℕ, ◌/◌, ◌%◌, ◌^◌, Bool, cond, not, replicate, None, Ok, Err, Result, ◌==◌, slice_index}
 use Rattle.bus.specs.Access.{bytes_of, misaligned}
 use Rattle.bus.specs.Fault.{raised}
 use Rattle.bus.specs.Laws.{Laws, byte_or_none, alignment_first, bears_raised}

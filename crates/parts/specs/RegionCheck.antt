@@ -1,5 +1,5 @@
 -- A region check: the highest-numbered region that covers an address decides.
-use Rattle.std.specs.Prelude.{◌≡◌, ℕ, zero, suc, ◌<◌, Bool, true, false, cond, not, ◌&&◌, List, length, replicate, Some, None, Ok, Err, Option, Result, nat_lt, slice_index_or, slice_set}
+use Rattle.std.specs.Prelude.{◌≡◌, ℕ, zero, suc, ◌<◌, Bool, true, false, cond, not, ◌&&◌, List, length, Some, None, Ok, Err, Option, Result, nat_lt, slice_index_or, slice_set}
 use Rattle.bus.specs.Access.{misaligned, covers as covers-byte}
 use Rattle.bus.specs.Fault.{raised}
 use Rattle.bus.specs.Laws.{Laws, alignment_first, bears_raised, bears_lifted}

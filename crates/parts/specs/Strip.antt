@@ -1,5 +1,5 @@
 -- A strip: the host's bytes at a base, the first of them read-only.
-use Rattle.std.specs.Prelude.{◌≡◌, ℕ, ◌+◌, ◌-◌, ◌%◌, ◌^◌, Bool, true, false, cond, not, ◌&&◌, List, length, None, ◌==◌, nat_le, nat_lt, slice_index}
+use Rattle.std.specs.Prelude.{ℕ, ◌+◌, ◌-◌, ◌%◌, ◌^◌, Bool, cond, not, ◌&&◌, List, length, None, ◌==◌, nat_le, nat_lt, slice_index}
 use Rattle.bus.specs.Access.{is_write, bytes_of, misaligned}
 use Rattle.bus.specs.Fault.{raised}
 use Rattle.bus.specs.Laws.{Laws, byte_or_none, alignment_first, bears_raised}

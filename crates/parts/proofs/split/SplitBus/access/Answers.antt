@@ -1,4 +1,4 @@
-use Rattle.std.proofs.Common.{◌≡◌, true, false, sym, refl, ap, ◌∙◌, rules}
+use Rattle.std.proofs.Common.{◌≡◌, true, false, refl, ap, ◌∙◌, rules}
 use Rattle.bus.specs.Access.{misaligned}
 use Rattle.bus.specs.Meaning.{Verdict}
 use Rattle.bus.specs.declared.access.Access.{Access}
