@@ -1,6 +1,5 @@
 -- While nothing is pending, nothing is chosen.
 use Rattle.std.proofs.Common.{◌≡◌, ℕ, zero, suc, false, leb, None, refl, ap, ◌∙◌}
-use native.Mathlib.Nat.{zero-div}
 use Rattle.std.proofs.lemmas.Bool.{and_left, and_right}
 use Rattle.word.specs.Fields.{bit_of}
 use Rattle.arch.specs.Priorities.{counts, better, best, if_below, chosen}
