@@ -2,7 +2,7 @@
 use Rattle.std.proofs.Common.{◌≡◌, ℕ, ◌+◌, true, false, eqb, ◌⊎◌, List, [], ◌∷◌, Ok, Err, Result, sym, refl, ap, ◌∙◌, subst, inl, inr, arith}
 use lib.Count.{ones}
 use Rattle.std.proofs.lemmas.Bool.{cases_eq, eq-eqb, ne_eqb, false≢true}
-use Rattle.bus.specs.Isolation.{Alike, Twins as twin-runs}
+use Rattle.bus.specs.Isolation.{Alike, Twins as twin_runs}
 use Rattle.bus.specs.Program.{World, Reply, done, run, Always}
 use Rattle.bus.specs.declared.access.Right.TheVariants.{Privileged}
 use Rattle.bus.specs.declared.access.Width.TheVariants.{Word}
@@ -45,7 +45,7 @@ balance (c ∷ cs) m sound =
     omega (arith, post.balanced, rest)
 
 -- what one call came to in both machines, and what the calls after it come to
-twins_here : (cs : List Call) (x y : (Response × Registers) × World) → twin-runs BothEntered x y → (entry x.0.0 ≡ true) ⊎ (privileged x.0.1 ≡ false) → (privileged x.0.1 ≡ false → Alike x.1 y.1 → Twins cs x.0.1 x.1 y.1) → (x.0.0 ≡ y.0.0) × ((entry x.0.0 ≡ true) ⊎ ((x.0.1 ≡ y.0.1) × Alike x.1 y.1 × Twins cs x.0.1 x.1 y.1))
+twins_here : (cs : List Call) (x y : (Response × Registers) × World) → twin_runs BothEntered x y → (entry x.0.0 ≡ true) ⊎ (privileged x.0.1 ≡ false) → (privileged x.0.1 ≡ false → Alike x.1 y.1 → Twins cs x.0.1 x.1 y.1) → (x.0.0 ≡ y.0.0) × ((entry x.0.0 ≡ true) ⊎ ((x.0.1 ≡ y.0.1) × Alike x.1 y.1 × Twins cs x.0.1 x.1 y.1))
 twins_here cs x y (inl (same, alike)) (inl entered) rest = (ap (λ a. a.0) same, inl entered)
 twins_here cs x y (inl (same, alike)) (inr low) rest = (ap (λ a. a.0) same, inr (ap (λ a. a.1) same, alike, rest low alike))
 twins_here cs x y (inr (n, p, q)) stays rest = (p ∙ sym q, inl (ap entry p))

@@ -2,7 +2,7 @@
 ghost use Rattle.std.specs.Prelude.{◌≡◌, None};
 ghost use Rattle.bus.specs.Program.{run, world_of};
 ghost use Rattle.arch.specs.Accesses.{noting, try_words};
-ghost use Rattle.arch.specs.Entry.{frame_of, frame_words as frame-words-of, return_value as return-value-of, entered, is_last, stack_frame as stack-frame-of, take_last as take-last-of, take_other as take-other-of, take_up as take-up-of};
+ghost use Rattle.arch.specs.Entry.{frame_of, frame_words as frame_words_of, return_value as return_value_of, entered, is_last, stack_frame as stack_frame_of, take_last as take_last_of, take_other as take_other_of, take_up as take_up_of};
 ghost use Rattle.arch.specs.Status.{frame_status};
 ghost use Rattle.arch.specs.declared.answers.Response.TheVariants.{Stepped};
 
@@ -31,7 +31,7 @@ fn stacked_status(r: &Registers, padded: bool) -> u32
 }
 
 fn frame_words(r: &Registers) -> [u32; 8]
-    ensures { result ≡ frame-words-of r.now }
+    ensures { result ≡ frame_words_of r.now }
 {
     let [r0, r1, r2, r3, _, _, _, _, _, _, _, _, r12] = r.general;
     let padded = word::bit(state::stack_pointer(r), 2);
@@ -64,7 +64,7 @@ fn stack_words<B: Bus>(bus: &mut B, right: Right, words: [u32; 8], x: u32) -> Op
 
 // EXC_RETURN for the interrupted mode.
 fn return_value(r: &Registers) -> u32
-    ensures { result ≡ return-value-of r.now }
+    ensures { result ≡ return_value_of r.now }
 {
     if state::handler(r) {
         0xffff_fff1
@@ -96,7 +96,7 @@ fn enter(r: &mut Registers, number: u8, vector: u32)
 
 // NMI and HardFault have nothing in their place: a refused vector locks the core.
 fn take_last<B: Bus>(r: &mut Registers, bus: &mut B, number: u8) -> Answer
-    ensures runs { run (take-last-of r.old number) (world_of B.Bus.bytes B.Bus.verdict bus.old) ≡ ((Stepped result, r.new), world_of B.Bus.bytes B.Bus.verdict bus.new) }
+    ensures runs { run (take_last_of r.old number) (world_of B.Bus.bytes B.Bus.verdict bus.old) ≡ ((Stepped result, r.new), world_of B.Bus.bytes B.Bus.verdict bus.new) }
     ensures settled { B.Bus.settings bus.new ≡ B.Bus.settings bus.old }
 {
     match bus.read(Width::Word, Right::Privileged, 4 * u32::from(number)) {
@@ -113,7 +113,7 @@ fn take_last<B: Bus>(r: &mut Registers, bus: &mut B, number: u8) -> Answer
 
 // Another exception gives way to HardFault where its vector or a word of its frame is refused.
 fn take_other<B: Bus>(r: &mut Registers, bus: &mut B, number: u8, refused: Option<Fault>) -> Answer
-    ensures runs { run (take-other-of r.old number refused) (world_of B.Bus.bytes B.Bus.verdict bus.old) ≡ ((Stepped result, r.new), world_of B.Bus.bytes B.Bus.verdict bus.new) }
+    ensures runs { run (take_other_of r.old number refused) (world_of B.Bus.bytes B.Bus.verdict bus.old) ≡ ((Stepped result, r.new), world_of B.Bus.bytes B.Bus.verdict bus.new) }
     ensures settled { B.Bus.settings bus.new ≡ B.Bus.settings bus.old }
 {
     if refused.is_some() {
@@ -136,14 +136,14 @@ fn is_last(number: u8) -> bool
 
 // The frame goes with the right of the interrupted mode, all of it, whatever is refused.
 fn stack_frame<B: Bus>(r: &Registers, bus: &mut B) -> Option<Fault>
-    ensures runs { run (stack-frame-of r.now) (world_of B.Bus.bytes B.Bus.verdict bus.old) ≡ (result, world_of B.Bus.bytes B.Bus.verdict bus.new) }
+    ensures runs { run (stack_frame_of r.now) (world_of B.Bus.bytes B.Bus.verdict bus.old) ≡ (result, world_of B.Bus.bytes B.Bus.verdict bus.new) }
     ensures settled { B.Bus.settings bus.new ≡ B.Bus.settings bus.old }
 {
     stack_words(bus, state::right(r), frame_words(r), frame_address(r))
 }
 
 pub fn take_up<B: Bus>(r: &mut Registers, bus: &mut B, number: u8) -> Answer
-    ensures runs { run (take-up-of r.old number) (world_of B.Bus.bytes B.Bus.verdict bus.old) ≡ ((Stepped result, r.new), world_of B.Bus.bytes B.Bus.verdict bus.new) }
+    ensures runs { run (take_up_of r.old number) (world_of B.Bus.bytes B.Bus.verdict bus.old) ≡ ((Stepped result, r.new), world_of B.Bus.bytes B.Bus.verdict bus.new) }
     ensures settled { B.Bus.settings bus.new ≡ B.Bus.settings bus.old }
 {
     let refused = stack_frame(r, bus);

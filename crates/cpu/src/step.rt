@@ -1,7 +1,7 @@
 // One step: an exception is taken up, or an instruction runs.
 ghost use Rattle.std.specs.Prelude.{◌≡◌, Err};
 ghost use Rattle.bus.specs.Program.{run, bind, done, world_of};
-ghost use Rattle.arch.specs.Step.{execute as execute-of, perform_decoded, instruction as instruction-of, settle, step as step_of_lem};
+ghost use Rattle.arch.specs.Step.{execute as execute_of, perform_decoded, instruction as instruction_of, settle, step as step_of_lem};
 ghost use Rattle.arch.specs.declared.answers.Response.TheVariants.{Stepped};
 ghost use Rattle.exec.specs.Outcome.{outcome, KeptAt};
 ghost use Rattle.thumb.specs.Decoded.{decoded};
@@ -20,7 +20,7 @@ fn execute<B: Bus>(
     instruction: Instruction,
     size: u32,
 ) -> Result<Flow, Fault>
-    ensures runs { run (execute-of instruction size r.old) (world_of B.Bus.bytes B.Bus.verdict bus.old) ≡ (outcome result r.new, world_of B.Bus.bytes B.Bus.verdict bus.new) }
+    ensures runs { run (execute_of instruction size r.old) (world_of B.Bus.bytes B.Bus.verdict bus.old) ≡ (outcome result r.new, world_of B.Bus.bytes B.Bus.verdict bus.new) }
     ensures kept { KeptAt result r.old r.new }
     ensures settled { B.Bus.settings bus.new ≡ B.Bus.settings bus.old }
 {
@@ -78,7 +78,7 @@ fn decode_and_execute<B: Bus>(
 
 // The instruction at PC; with T clear there is none.
 fn instruction<B: Bus>(r: &mut Registers, bus: &mut B) -> Result<Flow, Fault>
-    ensures runs { run (instruction-of r.old) (world_of B.Bus.bytes B.Bus.verdict bus.old) ≡ (outcome result r.new, world_of B.Bus.bytes B.Bus.verdict bus.new) }
+    ensures runs { run (instruction_of r.old) (world_of B.Bus.bytes B.Bus.verdict bus.old) ≡ (outcome result r.new, world_of B.Bus.bytes B.Bus.verdict bus.new) }
     ensures kept { KeptAt result r.old r.new }
     ensures settled { B.Bus.settings bus.new ≡ B.Bus.settings bus.old }
 {
@@ -116,7 +116,7 @@ fn answer(flow: Flow) -> Answer
 }
 
 fn run_instruction<B: Bus>(r: &mut Registers, bus: &mut B) -> Answer
-    ensures runs { run (bind (instruction-of r.old) (λ y. done (settle r.old y))) (world_of B.Bus.bytes B.Bus.verdict bus.old) ≡ ((Stepped result, r.new), world_of B.Bus.bytes B.Bus.verdict bus.new) }
+    ensures runs { run (bind (instruction_of r.old) (λ y. done (settle r.old y))) (world_of B.Bus.bytes B.Bus.verdict bus.old) ≡ ((Stepped result, r.new), world_of B.Bus.bytes B.Bus.verdict bus.new) }
     ensures settled { B.Bus.settings bus.new ≡ B.Bus.settings bus.old }
 {
     match instruction(r, bus) {

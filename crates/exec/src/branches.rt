@@ -1,7 +1,7 @@
 // Branches.
 ghost use Rattle.std.specs.Prelude.{◌≡◌, true};
 ghost use Rattle.bus.specs.Program.{run, world_of};
-ghost use Rattle.arch.specs.Branches.{returns_or_branches, bx_write_pc, branched_if, branch as branch-of, link as link-of};
+ghost use Rattle.arch.specs.Branches.{returns_or_branches, bx_write_pc, branched_if, branch as branch_of, link as link_of};
 ghost use Rattle.exec.specs.Outcome.{outcome, KeptAt};
 
 use crate::flow::Flow;
@@ -34,7 +34,7 @@ pub fn bx_write_pc<B: Bus>(r: &mut Registers, bus: &mut B, address: u32) -> Resu
 
 // The address after an instruction, with bit 0 set.
 fn link(r: &Registers, size: u32) -> u32
-    ensures { result ≡ link-of size r.now }
+    ensures { result ≡ link_of size r.now }
 {
     r.pc.wrapping_add(size) / 2 * 2 + 1
 }
@@ -50,7 +50,7 @@ fn branch_if(r: &mut Registers, taken: bool, offset: u32)
 }
 
 pub fn branch<B: Bus>(r: &mut Registers, bus: &mut B, instruction: Branch) -> Result<Flow, Fault>
-    ensures runs { run (branch-of instruction r.old) (world_of B.Bus.bytes B.Bus.verdict bus.old) ≡ (outcome result r.new, world_of B.Bus.bytes B.Bus.verdict bus.new) }
+    ensures runs { run (branch_of instruction r.old) (world_of B.Bus.bytes B.Bus.verdict bus.old) ≡ (outcome result r.new, world_of B.Bus.bytes B.Bus.verdict bus.new) }
     ensures kept { KeptAt result r.old r.new }
     ensures settled { B.Bus.settings bus.new ≡ B.Bus.settings bus.old }
 {

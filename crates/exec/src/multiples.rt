@@ -3,8 +3,8 @@ ghost use Rattle.std.specs.Prelude.{◌≡◌, ◌+◌, ◌*◌, ◌≤◌};
 ghost use Rattle.bus.specs.Program.{run, world_of};
 ghost use Rattle.word.specs.Sums.{one_if};
 ghost use Rattle.arch.specs.Registers.{minus, sp};
-ghost use Rattle.arch.specs.Transfers.{registers_of, store_registers, load_registers, span as span_of, push_lr, pop_pc, multiple as multiple-of};
-ghost use Rattle.exec.specs.Lists.{store_next, load_next, loaded_to};
+ghost use Rattle.arch.specs.Transfers.{registers_of, store_registers, load_registers, span as span_of, multiple as multiple_of};
+ghost use Rattle.exec.specs.Lists.{store_next, load_next, loaded_to, link_pushed, pc_popped};
 ghost use Rattle.exec.specs.Outcome.{outcome, returned_to, KeptAt};
 
 use crate::branches::bx_write_pc;
@@ -84,7 +84,7 @@ fn load_registers<B: Bus>(
 }
 
 fn store_multiple<B: Bus>(r: &mut Registers, bus: &mut B, n: u8, list: u8) -> Result<Flow, Fault>
-    ensures runs { run (multiple-of (Multiple.Stm n list) r.old) (world_of B.Bus.bytes B.Bus.verdict bus.old) ≡ (outcome result r.new, world_of B.Bus.bytes B.Bus.verdict bus.new) }
+    ensures runs { run (multiple_of (Multiple.Stm n list) r.old) (world_of B.Bus.bytes B.Bus.verdict bus.old) ≡ (outcome result r.new, world_of B.Bus.bytes B.Bus.verdict bus.new) }
     ensures kept { KeptAt result r.old r.new }
     ensures settled { B.Bus.settings bus.new ≡ B.Bus.settings bus.old }
 {
@@ -97,7 +97,7 @@ fn store_multiple<B: Bus>(r: &mut Registers, bus: &mut B, n: u8, list: u8) -> Re
 
 // LDM; a refused word leaves what was loaded before it.
 fn load_multiple<B: Bus>(r: &mut Registers, bus: &mut B, n: u8, list: u8) -> Result<Flow, Fault>
-    ensures runs { run (multiple-of (Multiple.Ldm n list) r.old) (world_of B.Bus.bytes B.Bus.verdict bus.old) ≡ (outcome result r.new, world_of B.Bus.bytes B.Bus.verdict bus.new) }
+    ensures runs { run (multiple_of (Multiple.Ldm n list) r.old) (world_of B.Bus.bytes B.Bus.verdict bus.old) ≡ (outcome result r.new, world_of B.Bus.bytes B.Bus.verdict bus.new) }
     ensures settled { B.Bus.settings bus.new ≡ B.Bus.settings bus.old }
 {
     let base = state::register(r, n);
@@ -110,7 +110,7 @@ fn load_multiple<B: Bus>(r: &mut Registers, bus: &mut B, n: u8, list: u8) -> Res
 
 // LR to the word at `x`, where it is pushed.
 fn push_link<B: Bus>(r: &Registers, bus: &mut B, lr: bool, x: u32) -> Result<(), Fault>
-    ensures runs { run (push_lr lr r.now x) (world_of B.Bus.bytes B.Bus.verdict bus.old) ≡ (result, world_of B.Bus.bytes B.Bus.verdict bus.new) }
+    ensures runs { run (link_pushed lr r.now x) (world_of B.Bus.bytes B.Bus.verdict bus.old) ≡ (result, world_of B.Bus.bytes B.Bus.verdict bus.new) }
     ensures settled { B.Bus.settings bus.new ≡ B.Bus.settings bus.old }
 {
     if lr {
@@ -128,7 +128,7 @@ fn push_base(r: &Registers, list: u8, lr: bool) -> u32
 }
 
 fn push<B: Bus>(r: &mut Registers, bus: &mut B, list: u8, lr: bool) -> Result<Flow, Fault>
-    ensures runs { run (multiple-of (Multiple.Push list lr) r.old) (world_of B.Bus.bytes B.Bus.verdict bus.old) ≡ (outcome result r.new, world_of B.Bus.bytes B.Bus.verdict bus.new) }
+    ensures runs { run (multiple_of (Multiple.Push list lr) r.old) (world_of B.Bus.bytes B.Bus.verdict bus.old) ≡ (outcome result r.new, world_of B.Bus.bytes B.Bus.verdict bus.new) }
     ensures kept { KeptAt result r.old r.new }
     ensures settled { B.Bus.settings bus.new ≡ B.Bus.settings bus.old }
 {
@@ -148,7 +148,7 @@ fn pop_pc<B: Bus>(
     pc: bool,
     x: u32,
 ) -> Result<Flow, Fault>
-    ensures runs { run (pop_pc pc right r.old x) (world_of B.Bus.bytes B.Bus.verdict bus.old) ≡ (outcome result r.new, world_of B.Bus.bytes B.Bus.verdict bus.new) }
+    ensures runs { run (pc_popped pc right r.old x) (world_of B.Bus.bytes B.Bus.verdict bus.old) ≡ (outcome result r.new, world_of B.Bus.bytes B.Bus.verdict bus.new) }
     ensures settled { B.Bus.settings bus.new ≡ B.Bus.settings bus.old }
 {
     if !pc {
@@ -163,7 +163,7 @@ fn pop_pc<B: Bus>(
 
 // POP; a refused word leaves what was loaded before it.
 fn pop<B: Bus>(r: &mut Registers, bus: &mut B, list: u8, pc: bool) -> Result<Flow, Fault>
-    ensures runs { run (multiple-of (Multiple.Pop list pc) r.old) (world_of B.Bus.bytes B.Bus.verdict bus.old) ≡ (outcome result r.new, world_of B.Bus.bytes B.Bus.verdict bus.new) }
+    ensures runs { run (multiple_of (Multiple.Pop list pc) r.old) (world_of B.Bus.bytes B.Bus.verdict bus.old) ≡ (outcome result r.new, world_of B.Bus.bytes B.Bus.verdict bus.new) }
     ensures settled { B.Bus.settings bus.new ≡ B.Bus.settings bus.old }
 {
     let base = state::stack_pointer(r);
@@ -174,7 +174,7 @@ fn pop<B: Bus>(r: &mut Registers, bus: &mut B, list: u8, pc: bool) -> Result<Flo
 
 // The registers change as the words come.
 fn carry_out<B: Bus>(r: &mut Registers, bus: &mut B, instruction: Multiple) -> Result<Flow, Fault>
-    ensures runs { run (multiple-of instruction r.old) (world_of B.Bus.bytes B.Bus.verdict bus.old) ≡ (outcome result r.new, world_of B.Bus.bytes B.Bus.verdict bus.new) }
+    ensures runs { run (multiple_of instruction r.old) (world_of B.Bus.bytes B.Bus.verdict bus.old) ≡ (outcome result r.new, world_of B.Bus.bytes B.Bus.verdict bus.new) }
     ensures settled { B.Bus.settings bus.new ≡ B.Bus.settings bus.old }
 {
     match instruction {
@@ -191,7 +191,7 @@ fn load_or_keep<B: Bus>(
     bus: &mut B,
     instruction: Multiple,
 ) -> Result<Flow, Fault>
-    ensures runs { run (multiple-of instruction r.old) (world_of B.Bus.bytes B.Bus.verdict bus.old) ≡ (outcome result r.new, world_of B.Bus.bytes B.Bus.verdict bus.new) }
+    ensures runs { run (multiple_of instruction r.old) (world_of B.Bus.bytes B.Bus.verdict bus.old) ≡ (outcome result r.new, world_of B.Bus.bytes B.Bus.verdict bus.new) }
     ensures kept { KeptAt result r.old r.new }
     ensures settled { B.Bus.settings bus.new ≡ B.Bus.settings bus.old }
 {
@@ -206,7 +206,7 @@ pub fn multiple<B: Bus>(
     bus: &mut B,
     instruction: Multiple,
 ) -> Result<Flow, Fault>
-    ensures runs { run (multiple-of instruction r.old) (world_of B.Bus.bytes B.Bus.verdict bus.old) ≡ (outcome result r.new, world_of B.Bus.bytes B.Bus.verdict bus.new) }
+    ensures runs { run (multiple_of instruction r.old) (world_of B.Bus.bytes B.Bus.verdict bus.old) ≡ (outcome result r.new, world_of B.Bus.bytes B.Bus.verdict bus.new) }
     ensures kept { KeptAt result r.old r.new }
     ensures settled { B.Bus.settings bus.new ≡ B.Bus.settings bus.old }
 {

@@ -2,7 +2,7 @@
 ghost use Rattle.std.specs.Prelude.{◌≡◌, true, not};
 ghost use Rattle.bus.specs.Program.{run, world_of};
 ghost use Rattle.arch.specs.Registers.{right_if};
-ghost use Rattle.arch.specs.Return.{core_fault, to_thread, to_process, returnable, frame_pointer, forced_thread, number_in, consistent, unstacked, restacked, restored, acceptable as is-acceptable, read_four, read_upper, read_frame, verdict_on, unstack as unstack-of, exception_return};
+ghost use Rattle.arch.specs.Return.{core_fault, to_thread, to_process, returnable, frame_pointer, forced_thread, number_in, consistent, unstacked, restacked, restored, acceptable as is_acceptable, read_four, read_upper, read_frame, verdict_on, unstack as unstack_of, exception_return};
 ghost use Rattle.arch.specs.Status.{word_flags};
 ghost use Rattle.exec.specs.Outcome.{returned_to, KeptAt};
 
@@ -136,7 +136,7 @@ fn number_after(r: &Registers, exc: u32, status: u32) -> u8
 }
 
 fn acceptable(r: &Registers, exc: u32, frame: &Frame) -> bool
-    ensures { result ≡ is-acceptable r.now exc frame.now }
+    ensures { result ≡ is_acceptable r.now exc frame.now }
 {
     frame.return_address % 2 == 0 && fits_mode(r, exc, frame.status)
 }
@@ -201,7 +201,7 @@ fn frame_right(r: &Registers, exc: u32) -> Right
 }
 
 fn unstack<B: Bus>(r: &mut Registers, bus: &mut B, exc: u32) -> Result<(), Fault>
-    ensures runs { run (unstack-of true r.old exc) (world_of B.Bus.bytes B.Bus.verdict bus.old) ≡ (returned_to result r.new, world_of B.Bus.bytes B.Bus.verdict bus.new) }
+    ensures runs { run (unstack_of true r.old exc) (world_of B.Bus.bytes B.Bus.verdict bus.old) ≡ (returned_to result r.new, world_of B.Bus.bytes B.Bus.verdict bus.new) }
     ensures kept { KeptAt result r.old r.new }
     ensures settled { B.Bus.settings bus.new ≡ B.Bus.settings bus.old }
 {

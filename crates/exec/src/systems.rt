@@ -2,8 +2,8 @@
 ghost use Rattle.std.specs.Prelude.{◌≡◌, ◌≤◌};
 ghost use Rattle.bus.specs.Program.{done};
 ghost use Rattle.arch.specs.Registers.{pend as pended};
-ghost use Rattle.arch.specs.Status.{flags_word as flags-word-of};
-ghost use Rattle.arch.specs.System.{if_privileged, special_value as special-value-of, special_write, system as system-of};
+ghost use Rattle.arch.specs.Status.{flags_word as flags_word_of};
+ghost use Rattle.arch.specs.System.{if_privileged, special_value as special_value_of, special_write, system as system_of};
 ghost use Rattle.exec.specs.Outcome.{outcome, KeptAt};
 
 use crate::flow::Flow;
@@ -15,7 +15,7 @@ use word::Flags;
 
 // APSR as a word.
 pub fn flags_word(flags: Flags) -> u32
-    ensures value { result ≡ flags-word-of flags }
+    ensures value { result ≡ flags_word_of flags }
     ensures bound { result ≤ 0xf000_0000 }
 {
     u32::from(flags.n) * 0x8000_0000
@@ -33,7 +33,7 @@ fn shown(r: &Registers, value: u32) -> u32
 
 // What MRS reads.
 fn special_value(r: &Registers, from: SpecialRegister) -> u32
-    ensures { result ≡ special-value-of from r.now }
+    ensures { result ≡ special_value_of from r.now }
 {
     let flags = flags_word(r.flags);
     let number = shown(r, u32::from(r.current));
@@ -88,7 +88,7 @@ pub fn pend(r: &mut Registers, number: u8)
 
 // SVCall, which has to be able to preempt.
 fn call_supervisor(r: &mut Registers, size: u32) -> Result<Flow, Fault>
-    ensures value { system-of (System.Svc 0) size r.old ≡ done (outcome result r.new) }
+    ensures value { system_of (System.Svc 0) size r.old ≡ done (outcome result r.new) }
     ensures kept { KeptAt result r.old r.new }
 {
     if state::priority(r, 11) >= state::execution_priority(r) {
@@ -100,7 +100,7 @@ fn call_supervisor(r: &mut Registers, size: u32) -> Result<Flow, Fault>
 }
 
 pub fn system(r: &mut Registers, instruction: System, size: u32) -> Result<Flow, Fault>
-    ensures value { system-of instruction size r.old ≡ done (outcome result r.new) }
+    ensures value { system_of instruction size r.old ≡ done (outcome result r.new) }
     ensures kept { KeptAt result r.old r.new }
 {
     match instruction {

@@ -2,7 +2,7 @@
 ghost use Rattle.std.specs.Prelude.{◌≡◌, ◌%◌, ◌^◌};
 ghost use Rattle.bus.specs.Program.{run, world_of};
 ghost use Rattle.word.specs.Extend.{sign_extend};
-ghost use Rattle.arch.specs.Transfers.{address_of, loading, storing, transfer as transfer-of};
+ghost use Rattle.arch.specs.Transfers.{address_of, loading, storing, transfer as transfer_of};
 ghost use Rattle.exec.specs.Outcome.{outcome, KeptAt};
 
 use crate::flow::Flow;
@@ -79,7 +79,7 @@ pub fn transfer<B: Bus>(
     t: u8,
     address: u32,
 ) -> Result<Flow, Fault>
-    ensures runs { run (transfer-of operation t address r.old) (world_of B.Bus.bytes B.Bus.verdict bus.old) ≡ (outcome result r.new, world_of B.Bus.bytes B.Bus.verdict bus.new) }
+    ensures runs { run (transfer_of operation t address r.old) (world_of B.Bus.bytes B.Bus.verdict bus.old) ≡ (outcome result r.new, world_of B.Bus.bytes B.Bus.verdict bus.new) }
     ensures kept { KeptAt result r.old r.new }
     ensures settled { B.Bus.settings bus.new ≡ B.Bus.settings bus.old }
 {

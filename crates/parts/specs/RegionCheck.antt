@@ -1,6 +1,6 @@
 -- A region check: the highest-numbered region that covers an address decides.
 use Rattle.std.specs.Prelude.{◌≡◌, ℕ, zero, suc, ◌<◌, Bool, true, false, cond, not, ◌&&◌, List, length, Some, None, Ok, Err, Option, Result, nat_lt, slice_index_or, slice_set}
-use Rattle.bus.specs.Access.{misaligned, covers as covers-byte}
+use Rattle.bus.specs.Access.{misaligned, covers as covers_byte}
 use Rattle.bus.specs.Fault.{raised}
 use Rattle.bus.specs.Laws.{Laws, alignment_first, bears_raised, bears_lifted}
 use Rattle.bus.specs.Meaning.{Verdict, refused_if, lifted}
@@ -42,7 +42,7 @@ passes regions background a = passes_by (deciding regions a.address) regions bac
 
 -- one region, or none, decides on every byte of an aligned access
 abbrev pub OneDecider : List Region → Access → Type 0
-OneDecider regions a = misaligned a ≡ false → (x : ℕ) → covers-byte a x ≡ true → deciding regions x ≡ deciding regions a.address
+OneDecider regions a = misaligned a ≡ false → (x : ℕ) → covers_byte a x ≡ true → deciding regions x ≡ deciding regions a.address
 
 abbrev pub check_verdict : List Region → Bool → (Access → Verdict) → Access → Verdict
 check_verdict regions background below a =

@@ -1,12 +1,12 @@
 // R[n], SP, PC and the mode, as the manual's pseudocode reads and writes them.
 ghost use Rattle.std.specs.Prelude.{◌≡◌};
-ghost use Rattle.arch.specs.Registers.{handler as is-handler, privileged as is_privileged, right_of, on_process, sp, with_sp, pc_value, reg, with_reg, moved_on, branch_to, interwork, with_pc};
+ghost use Rattle.arch.specs.Registers.{handler as is_handler, privileged as is_privileged, right_of, on_process, sp, with_sp, pc_value, reg, with_reg, moved_on, branch_to, interwork, with_pc};
 
 use arch::Registers;
 use bus::Right;
 
 pub fn handler(r: &Registers) -> bool
-    ensures { result ≡ is-handler r.now }
+    ensures { result ≡ is_handler r.now }
 {
     r.current != 0
 }

@@ -1,6 +1,6 @@
 // Which exception goes first. A lower number is a higher priority.
 ghost use Rattle.std.specs.Prelude.{◌≡◌, slice_index};
-ghost use Rattle.arch.specs.Priorities.{priority as priority-of, execution_priority, least_active, counts, better, best, chosen as Chosen-of, if_below};
+ghost use Rattle.arch.specs.Priorities.{priority as priority_of, execution_priority, least_active, counts, better, best, chosen as Chosen-of, if_below};
 
 use arch::Registers;
 
@@ -17,7 +17,7 @@ fn rank(r: &Registers, n: u8) -> u8
 }
 
 pub fn priority(r: &Registers, n: u8) -> i32
-    ensures { result ≡ priority-of r.now n }
+    ensures { result ≡ priority_of r.now n }
 {
     match n {
         2 => -2,

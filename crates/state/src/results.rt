@@ -1,6 +1,6 @@
 // Where results go: into a register, with the flags that they set.
 ghost use Rattle.std.specs.Prelude.{◌≡◌};
-ghost use Rattle.arch.specs.Data.{summed, compared, resulted, shifted as shifted-into, written_to};
+ghost use Rattle.arch.specs.Data.{summed, compared, resulted, shifted as shifted_into, written_to};
 
 use crate::access::set_register;
 use arch::Registers;
@@ -27,7 +27,7 @@ pub fn put_result(r: &mut Registers, d: u8, value: u32)
 }
 
 pub fn put_shifted(r: &mut Registers, d: u8, shifted: Shifted)
-    ensures { r.new ≡ shifted-into r.old d shifted }
+    ensures { r.new ≡ shifted_into r.old d shifted }
 {
     set_register(r, d, shifted.value);
     r.flags = r.flags.with_shifted(shifted);

@@ -2,7 +2,7 @@
 ghost use Rattle.std.specs.Prelude.{◌≡◌};
 ghost use Rattle.bus.specs.Program.{run, world_of};
 ghost use Rattle.arch.specs.Laws.{Kept};
-ghost use Rattle.arch.specs.Step.{step as step_of_lem, external as is-external, raisable as is-raisable, rankable as is-rankable, raised, armed, ranked, answer_to};
+ghost use Rattle.arch.specs.Step.{step as step_of_lem, external as is_external, raisable as is_raisable, rankable as is_rankable, raised, armed, ranked, answer_to};
 ghost use Rattle.cpu.specs.Responses.{stepped, accepted};
 
 use super::Core;
@@ -12,19 +12,19 @@ use bus::{Bus, Refusal};
 
 // 16 to 47
 fn external(number: u32) -> bool
-    ensures { result ≡ is-external number }
+    ensures { result ≡ is_external number }
 {
     16 <= number && number < 48
 }
 
 fn raisable(number: u32) -> bool
-    ensures { result ≡ is-raisable number }
+    ensures { result ≡ is_raisable number }
 {
     number == 2 || number == 14 || number == 15 || external(number)
 }
 
 fn rankable(number: u32) -> bool
-    ensures { result ≡ is-rankable number }
+    ensures { result ≡ is_rankable number }
 {
     number == 11 || number == 14 || number == 15 || external(number)
 }

@@ -1,7 +1,7 @@
 // How a core begins.
 ghost use Rattle.std.specs.Prelude.{◌≡◌};
 ghost use Rattle.bus.specs.Program.{run, world_of};
-ghost use Rattle.arch.specs.Step.{blank as blank_of, fresh as fresh-of, new_core, reset as reset-of};
+ghost use Rattle.arch.specs.Step.{blank as blank_of, fresh as fresh_of, new_core, reset as reset_of};
 ghost use Rattle.exec.specs.Outcome.{returned_to, KeptAt};
 ghost use Rattle.cpu.specs.Restored.{Restored};
 
@@ -45,7 +45,7 @@ fn blank(locked: bool, lr: u32, msp: u32, pc: u32, thumb: bool) -> Registers
 
 // The registers just after a reset, by words 0 and 4.
 fn fresh(msp: u32, start: u32) -> Registers
-    ensures { result ≡ fresh-of msp start }
+    ensures { result ≡ fresh_of msp start }
 {
     blank(
         false,
@@ -57,7 +57,7 @@ fn fresh(msp: u32, start: u32) -> Registers
 }
 
 fn boot<B: Bus>(bus: &mut B) -> Result<Registers, Fault>
-    ensures runs { run reset-of (world_of B.Bus.bytes B.Bus.verdict bus.old) ≡ (result, world_of B.Bus.bytes B.Bus.verdict bus.new) }
+    ensures runs { run reset_of (world_of B.Bus.bytes B.Bus.verdict bus.old) ≡ (result, world_of B.Bus.bytes B.Bus.verdict bus.new) }
     ensures contents { B.Bus.bytes bus.new ≡ B.Bus.bytes bus.old }
     ensures verdicts { B.Bus.verdict bus.new ≡ B.Bus.verdict bus.old }
     ensures settled { B.Bus.settings bus.new ≡ B.Bus.settings bus.old }
@@ -97,7 +97,7 @@ impl Core {
 
     // A refused read is answered and changes nothing.
     pub fn reset<B: Bus>(&mut self, bus: &mut B) -> Result<(), Fault>
-        ensures runs { run reset-of (world_of B.Bus.bytes B.Bus.verdict bus.old) ≡ (returned_to result self.new.registers, world_of B.Bus.bytes B.Bus.verdict bus.new) }
+        ensures runs { run reset_of (world_of B.Bus.bytes B.Bus.verdict bus.old) ≡ (returned_to result self.new.registers, world_of B.Bus.bytes B.Bus.verdict bus.new) }
         ensures kept { KeptAt result self.old.registers self.new.registers }
         ensures contents { B.Bus.bytes bus.new ≡ B.Bus.bytes bus.old }
         ensures verdicts { B.Bus.verdict bus.new ≡ B.Bus.verdict bus.old }

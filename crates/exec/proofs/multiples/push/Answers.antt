@@ -7,6 +7,7 @@ use Rattle.arch.specs.Branches.{ran}
 use Rattle.arch.specs.Registers.{minus, sp, with_sp, moved_on}
 use Rattle.arch.specs.Transfers.{registers_of, store_registers, push_lr, span}
 use Rattle.arch.specs.declared.registers.Registers.{Registers}
+use Rattle.exec.proofs.Lists.{link_then}
 use Rattle.exec.proofs.Sequence.{run_then}
 use Rattle.exec.proofs.multiples.push.Goals as goal
 
@@ -42,7 +43,7 @@ returns-in_err-push_link g c =
     let p = err_from_is_err_and c.from_residual-in_err-push_link.result c.from_residual-in_err-push_link.ensures.1 in
     rw (p.1, p.2) (record {
       runs = run_then (store_registers s (registers_of list) base) (λ x. then (push_lr lr s x) (λ _. done (Ok (ran (moved_on 2 (with_sp s base)))))) before between (Ok c.in_ok-top.top) (rw c.push_base-base.ensures at stored.runs)
-          ∙ run_then (push_lr lr s c.in_ok-top.top) (λ _. done (Ok (ran (moved_on 2 (with_sp s base))))) between after (Err c.in_err-push_link.field-0.0) refused.runs;
+          ∙ link_then lr s c.in_ok-top.top (λ _. done (Ok (ran (moved_on 2 (with_sp s base))))) between after (Err c.in_err-push_link.field-0.0) refused.runs;
       kept = refl;
       settled = refused.settled ∙ stored.settled;
     })
@@ -62,7 +63,7 @@ returns g c =
     let left = c.move_on.ensures ∙ ap (moved_on 2) (c.set_stack_pointer.ensures ∙ ap (with_sp s) c.push_base-base.ensures) in
     record {
       runs = run_then (store_registers s (registers_of list) base) (λ x. then (push_lr lr s x) (λ _. done (Ok (ran (moved_on 2 (with_sp s base)))))) before between (Ok c.in_ok-top.top) (rw c.push_base-base.ensures at stored.runs)
-          ∙ run_then (push_lr lr s c.in_ok-top.top) (λ _. done (Ok (ran (moved_on 2 (with_sp s base))))) between after (Ok c.in_ok-push_link.field-0) linked.runs
+          ∙ link_then lr s c.in_ok-top.top (λ _. done (Ok (ran (moved_on 2 (with_sp s base))))) between after (Ok c.in_ok-push_link.field-0) linked.runs
           ∙ ap (λ (t : Registers). (Ok (ran t), after)) (sym left);
       kept = tt;
       settled = linked.settled ∙ stored.settled;
