@@ -1,5 +1,5 @@
 -- The words of a script and of its report.
-use Rattle.std.specs.Prelude.{ℕ, ◌*◌, ◌^◌, cond, List, codes, ◌==◌}
+use Rattle.std.specs.Prelude.{ℕ, cond, List, codes, ◌==◌}
 use Rattle.bus.specs.declared.access.Right.{Right}
 use Rattle.bus.specs.declared.access.Right.TheVariants.{Privileged, Unprivileged}
 use Rattle.bus.specs.declared.access.Width.{Width}

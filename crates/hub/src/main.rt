@@ -10,14 +10,17 @@ mod story;
 
 use crate::error::HubError;
 use crate::pile::{FLASH_BASE, FLASH_SIZE, RAM_BASE, RAM_SIZE};
+use std::process::ExitCode;
 use std::{env, fs};
 
-fn main(rt: HostRuntime) -> Result<(), HubError> {
-    let ended = run(&rt);
-    if let Err(error) = &ended {
-        eprintln!(rt; "hub: {error}")?;
+fn main(rt: HostRuntime) -> ExitCode {
+    match run(&rt) {
+        Ok(()) => ExitCode::SUCCESS,
+        Err(error) => {
+            let _ = eprintln!(rt; "hub: {error}");
+            ExitCode::FAILURE
+        }
     }
-    ended
 }
 
 // Plays the script that the first argument names, or else the story.

@@ -119,8 +119,8 @@ fn play_line<B: Bus>(
 }
 
 fn ask<B: Bus>(bus: &mut B, request: Request) -> Answer
-    ensures value { result ≡ answered request.access.usage (answer (verdict bus.old request.access) (replied (bytes bus.old) request.access)) }
-    ensures contents { bytes bus.new ≡ after (verdict bus.old request.access) (written (bytes bus.old) request.access request.value) (bytes bus.old) }
+    ensures value { result ≡ answered request.access.usage (answer (B.Bus.verdict bus.old request.access) (replied (B.Bus.bytes bus.old) request.access)) }
+    ensures contents { B.Bus.bytes bus.new ≡ after (B.Bus.verdict bus.old request.access) (written (B.Bus.bytes bus.old) request.access request.value) (B.Bus.bytes bus.old) }
 {
     match bus.access(request.access, request.value) {
         Err(fault) => Answer::Refused(fault),
