@@ -26,11 +26,21 @@ sound_core core =
     record { even = core.even; main = core.main; process = core.process; mode = core.mode; current = implied (eqb s.current 0) (bit_of s.exceptions.active s.current) core.current }
 
 -- the facts of the type, one by one
-abbrev pub Keeps : Registers → Type 0
-Keeps s = (s.pc % 2 ≡ 0) × ((s.msp % 4 ≡ 0) × ((s.psp % 4 ≡ 0) × ((eqb s.current 0 ≡ eqb s.exceptions.active 0) × (((eqb s.current 0 || bit_of s.exceptions.active s.current) ≡ true) × Unit {0}))))
+pub record Keeps (s : Registers) : Type 0 where
+  pub even : s.pc % 2 ≡ 0
+  pub main : s.msp % 4 ≡ 0
+  pub process : s.psp % 4 ≡ 0
+  pub mode : eqb s.current 0 ≡ eqb s.exceptions.active 0
+  pub current : (eqb s.current 0 || bit_of s.exceptions.active s.current) ≡ true
 
 pub keeps : (s : Registers) → Sound s → Keeps s
-keeps s sound = (sound.even, (sound.main, (sound.process, (sound.mode, (either (eqb s.current 0) (bit_of s.exceptions.active s.current) sound.current, tt)))))
+keeps s sound = record {
+  even = sound.even;
+  main = sound.main;
+  process = sound.process;
+  mode = sound.mode;
+  current = either (eqb s.current 0) (bit_of s.exceptions.active s.current) sound.current;
+}
 
 module _ (s t : Registers) (w w' : World) (x : Response) (sound : Sound s) (e : run (step s) w ≡ ((x, t), w')) where
   -- a step leaves a sound core sound

@@ -1,3 +1,4 @@
 pub mod Performed
 pub mod Responses
 pub mod Restored
+pub mod Stacked

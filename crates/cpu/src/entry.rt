@@ -1,10 +1,11 @@
 // Taking up an exception.
 ghost use Rattle.std.specs.Prelude.{◌≡◌, None};
 ghost use Rattle.bus.specs.Program.{run, world_of};
-ghost use Rattle.arch.specs.Accesses.{noting, try_words};
+ghost use Rattle.arch.specs.Accesses.{try_words};
 ghost use Rattle.arch.specs.Entry.{frame_of, frame_words as frame_words_of, return_value as return_value_of, entered, is_last, stack_frame as stack_frame_of, take_last as take_last_of, take_other as take_other_of, take_up as take_up_of};
 ghost use Rattle.arch.specs.Status.{frame_status};
 ghost use Rattle.arch.specs.declared.answers.Response.TheVariants.{Stepped};
+ghost use Rattle.cpu.specs.Stacked.{first_refusal};
 
 use arch::{Answer, Registers};
 use bus::{Bus, Fault, Right, Width};
@@ -40,7 +41,7 @@ fn frame_words(r: &Registers) -> [u32; 8]
 
 // The first of the refusals so far.
 fn note(first: Option<Fault>, reply: Result<(), Fault>) -> Option<Fault>
-    ensures { result ≡ noting first reply }
+    ensures { result ≡ first_refusal first reply }
 {
     match (first, reply) {
         (None, Err(fault)) => Some(fault),

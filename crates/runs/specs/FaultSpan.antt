@@ -1,6 +1,6 @@
 -- The least and the greatest fault address.
 use Rattle.std.specs.Prelude.{◌≡◌, ℕ, ◌≤◌, min, max, ◌⊎◌, List, [], ◌∷◌, ◌++◌}
-use Rattle.std.specs.List.{AllByRecursion as All}
+use Rattle.std.specs.List.{AllByRecursion}
 use Rattle.arch.specs.declared.answers.Answer.{Answer}
 use Rattle.arch.specs.declared.answers.Answer.TheVariants.{Ran, Entered, Returned, Faulted, Locked}
 use Rattle.runs.specs.declared.fault_span.FaultSpan.{FaultSpan}
@@ -41,7 +41,7 @@ Among x (y ∷ ys) = (x ≡ y) ⊎ Among x ys
 -- a span of these addresses: none where there is no address; else two of them, with all between
 abbrev pub Spanning : FaultSpan → List ℕ → Type 0
 Spanning NoFault addresses = addresses ≡ []
-Spanning (Between least greatest) addresses = Among least addresses × Among greatest addresses × All (λ x. (least ≤ x) × (x ≤ greatest)) addresses
+Spanning (Between least greatest) addresses = Among least addresses × Among greatest addresses × AllByRecursion (λ x. (least ≤ x) × (x ≤ greatest)) addresses
 
 abbrev pub Spans : FaultSpan → List Answer → Type 0
 Spans span answers = Spanning span (fault_addresses answers)

@@ -1,6 +1,6 @@
 // Which exception goes first. A lower number is a higher priority.
 ghost use Rattle.std.specs.Prelude.{◌≡◌, slice_index};
-ghost use Rattle.arch.specs.Priorities.{priority as priority_of, execution_priority, least_active, counts, better, best, chosen as Chosen-of, if_below};
+ghost use Rattle.arch.specs.Priorities.{priority as priority_of, execution_priority, least_active, counts, better, best, chosen as chosen_of, if_below};
 
 use arch::Registers;
 
@@ -79,7 +79,7 @@ fn best_pending(r: &Registers) -> Option<u8>
 
 // The exception that a step takes up. Nothing is looked through while nothing is pending.
 pub fn chosen(r: &Registers) -> Option<u8>
-    ensures { result ≡ Chosen-of r.now }
+    ensures { result ≡ chosen_of r.now }
 {
     if r.exceptions.pending == 0 {
         return None;

@@ -2,7 +2,7 @@
 use Rattle.std.proofs.Common.{◌≡◌, ℕ, ◌+◌, ◌*◌, ◌^◌, Bool, true, false, cond, ◌&&◌, ◌||◌, eqb, List, [], ◌∷◌, length, Err, MatchBool, refl, inl, inr, arith}
 use Rattle.std.proofs.lemmas.Bool.{and_parts, both_ways, or_cases}
 use Rattle.std.proofs.lemmas.Bool.Decides.{nat_tests}
-use Rattle.std.specs.List.{AllByRecursion as All}
+use Rattle.std.specs.List.{AllByRecursion}
 use Rattle.thumb.specs.Diagram.{Bits, bits_of, letter, agrees}
 use Rattle.thumb.specs.Rows.{Row, Answer, narrow_rows, wide_rows}
 use Rattle.thumb.specs.Decoded.{decoded, decoded_narrow, decoded_wide, fits, answer, lookup, wide_first}
@@ -45,7 +45,7 @@ clash_pairs [] = true
 clash_pairs (r ∷ rs) = clash_all r rs && clash_pairs rs
 
 apart_from : (r : Row) (rs : List Row) → clash_all r rs ≡ true
-    → All (λ s. (b : Bits) → fits r b ≡ true → fits s b ≡ true → ⊥) rs
+    → AllByRecursion (λ s. (b : Bits) → fits r b ≡ true → fits s b ≡ true → ⊥) rs
 unfolding clash_all
 apart_from r [] h = tt
 apart_from r (s ∷ rs) h =
@@ -69,9 +69,9 @@ wide_apart = apart wide_rows refl
 
 -- what a row of the rest says, where no earlier row fits
 later : (r : Row) (rs : List Row) (b : Bits) (ss : List Row)
-    → All (λ s. (b : Bits) → fits r b ≡ true → fits s b ≡ true → ⊥) ss
-    → All (λ s. fits s b ≡ true → lookup rs b ≡ answer s b) ss
-    → All (λ s. fits s b ≡ true → lookup (r ∷ rs) b ≡ answer s b) ss
+    → AllByRecursion (λ s. (b : Bits) → fits r b ≡ true → fits s b ≡ true → ⊥) ss
+    → AllByRecursion (λ s. fits s b ≡ true → lookup rs b ≡ answer s b) ss
+    → AllByRecursion (λ s. fits s b ≡ true → lookup (r ∷ rs) b ≡ answer s b) ss
 unfolding lookup
 later r rs b [] h k = tt
 later r rs b (s ∷ ss) h k = (λ f. on (fits r b) (λ e. h.0 b e f) (k.0 f), later r rs b ss h.1 k.1)
@@ -80,12 +80,12 @@ later r rs b (s ∷ ss) h k = (λ f. on (fits r b) (λ e. h.0 b e f) (k.0 f), la
     on true n e = absurd (n refl)
     on false n e = e
 
-fitting : (rs : List Row) (b : Bits) → Apart rs → All (λ s. fits s b ≡ true → lookup rs b ≡ answer s b) rs
+fitting : (rs : List Row) (b : Bits) → Apart rs → AllByRecursion (λ s. fits s b ≡ true → lookup rs b ≡ answer s b) rs
 unfolding lookup
 fitting [] b h = tt
 fitting (r ∷ rs) b h = (λ f. rw f, later r rs b rs h.0 (fitting rs b h.1))
 
-otherwise : (rs : List Row) (b : Bits) → All (λ s. fits s b ≡ false) rs → lookup rs b ≡ Err Undefined
+otherwise : (rs : List Row) (b : Bits) → AllByRecursion (λ s. fits s b ≡ false) rs → lookup rs b ≡ Err Undefined
 unfolding lookup
 otherwise [] b h = refl
 otherwise (r ∷ rs) b h = rw h.0 (otherwise rs b h.1)

@@ -4,7 +4,7 @@ use Prim.Native.String.{String}
 use Rattle.std.proofs.lemmas.Nat.{mul-add-lt}
 use Rattle.std.proofs.lemmas.Bool.{and_parts}
 use Rattle.std.proofs.lemmas.Bool.Decides.{nat_tests}
-use Rattle.std.specs.List.{AllByRecursion as All}
+use Rattle.std.specs.List.{AllByRecursion}
 use Rattle.thumb.specs.Diagram.{Bits, bits_of, letter, size, spelled, agrees}
 use Rattle.thumb.specs.Rows.{Row, Answer, Fields, chosen, special_access, unless, narrow_rows, wide_rows}
 use Rattle.thumb.specs.Decoded.{decoded, decoded_narrow, decoded_wide, fits, lookup, wide_first}
@@ -14,7 +14,7 @@ use Rattle.thumb.specs.declared.instructions.Instruction.{Instruction}
 use Rattle.thumb.specs.declared.instructions.Instruction.TheVariants.{Basic, System}
 use Rattle.thumb.specs.declared.instructions.Basic.TheVariants as basic
 use Rattle.thumb.specs.declared.instructions.SpecialRegister.{SpecialRegister}
-use Rattle.thumb.specs.declared.instructions.System.{System as System-op}
+use Rattle.thumb.specs.declared.instructions.System.{System as SystemOp}
 use Rattle.thumb.specs.declared.instructions.Refusal.TheVariants.{Unpredictable}
 
 abbrev Binary : Bits → Type 0
@@ -41,7 +41,7 @@ within drawn [] = true
 within drawn (p ∷ ps) = leb (size (letter p.0) drawn) p.1 && within drawn ps
 
 abbrev Small : Fields → List (String × ℕ) → Type 0
-Small f = All (λ p. f p.0 < 2 ^ p.1)
+Small f = AllByRecursion (λ p. f p.0 < 2 ^ p.1)
 
 smalls : (drawn : List ℕ) (b : Bits) → Binary b → (ps : List (String × ℕ)) → within drawn ps ≡ true
     → Small (λ l. spelled (letter l) drawn b) ps
@@ -56,37 +56,37 @@ abbrev Stands : Row → Type 0
 Stands r = (f : Fields) → Small f bounds → OperandsStand (r.means f)
 
 -- the fields of registers, as the rows name them
-d : (f : Fields) → Small f bounds → All (λ k. k < 16) (f "d" ∷ []) × Unit {0}
+d : (f : Fields) → Small f bounds → AllByRecursion (λ k. k < 16) (f "d" ∷ []) × Unit {0}
 d f s = ((s.0, tt), tt)
 
-n : (f : Fields) → Small f bounds → All (λ k. k < 16) (f "n" ∷ []) × Unit {0}
+n : (f : Fields) → Small f bounds → AllByRecursion (λ k. k < 16) (f "n" ∷ []) × Unit {0}
 n f s = ((s.1.0, tt), tt)
 
-m : (f : Fields) → Small f bounds → All (λ k. k < 16) (f "m" ∷ []) × Unit {0}
+m : (f : Fields) → Small f bounds → AllByRecursion (λ k. k < 16) (f "m" ∷ []) × Unit {0}
 m f s = ((s.1.1.0, tt), tt)
 
-d_m : (f : Fields) → Small f bounds → All (λ k. k < 16) (f "d" ∷ f "m" ∷ []) × Unit {0}
+d_m : (f : Fields) → Small f bounds → AllByRecursion (λ k. k < 16) (f "d" ∷ f "m" ∷ []) × Unit {0}
 d_m f s = ((s.0, (s.1.1.0, tt)), tt)
 
-d_n : (f : Fields) → Small f bounds → All (λ k. k < 16) (f "d" ∷ f "n" ∷ []) × Unit {0}
+d_n : (f : Fields) → Small f bounds → AllByRecursion (λ k. k < 16) (f "d" ∷ f "n" ∷ []) × Unit {0}
 d_n f s = ((s.0, (s.1.0, tt)), tt)
 
-n_m : (f : Fields) → Small f bounds → All (λ k. k < 16) (f "n" ∷ f "m" ∷ []) × Unit {0}
+n_m : (f : Fields) → Small f bounds → AllByRecursion (λ k. k < 16) (f "n" ∷ f "m" ∷ []) × Unit {0}
 n_m f s = ((s.1.0, (s.1.1.0, tt)), tt)
 
-d_n_m : (f : Fields) → Small f bounds → All (λ k. k < 16) (f "d" ∷ f "n" ∷ f "m" ∷ []) × Unit {0}
+d_n_m : (f : Fields) → Small f bounds → AllByRecursion (λ k. k < 16) (f "d" ∷ f "n" ∷ f "m" ∷ []) × Unit {0}
 d_n_m f s = ((s.0, (s.1.0, (s.1.1.0, tt))), tt)
 
-t : (f : Fields) → Small f bounds → All (λ k. k < 16) (f "t" ∷ []) × Unit {0}
+t : (f : Fields) → Small f bounds → AllByRecursion (λ k. k < 16) (f "t" ∷ []) × Unit {0}
 t f s = ((s.1.1.1.0, tt), tt)
 
-t_n : (f : Fields) → Small f bounds → All (λ k. k < 16) (f "t" ∷ f "n" ∷ []) × Unit {0}
+t_n : (f : Fields) → Small f bounds → AllByRecursion (λ k. k < 16) (f "t" ∷ f "n" ∷ []) × Unit {0}
 t_n f s = ((s.1.1.1.0, (s.1.0, tt)), tt)
 
-t_n_m : (f : Fields) → Small f bounds → All (λ k. k < 16) (f "t" ∷ f "n" ∷ f "m" ∷ []) × Unit {0}
+t_n_m : (f : Fields) → Small f bounds → AllByRecursion (λ k. k < 16) (f "t" ∷ f "n" ∷ f "m" ∷ []) × Unit {0}
 t_n_m f s = ((s.1.1.1.0, (s.1.0, (s.1.1.0, tt))), tt)
 
-guarded : (b : Bool) (i : Instruction) → (b ≡ false → All (λ n. n < 16) (registers i) × InstructionLists i) → OperandsStand (unless b i)
+guarded : (b : Bool) (i : Instruction) → (b ≡ false → AllByRecursion (λ n. n < 16) (registers i) × InstructionLists i) → OperandsStand (unless b i)
 guarded true i h = tt
 guarded false i h = h refl
 
@@ -95,7 +95,7 @@ infixr 20 ◌&◌
 ◌&◌ a b = (a, b)
 
 -- the two instructions of the first row
-either : (b : Bool) (d m i : ℕ) → All (λ k. k < 16) (d ∷ m ∷ []) → OperandsStand (Ok (Basic (cond b (basic.Mov d m) (basic.Lsl d m i))))
+either : (b : Bool) (d m i : ℕ) → AllByRecursion (λ k. k < 16) (d ∷ m ∷ []) → OperandsStand (Ok (Basic (cond b (basic.Mov d m) (basic.Lsl d m i))))
 either true d m i h = (h, tt)
 either false d m i h = (h, tt)
 
@@ -104,10 +104,10 @@ none : (f : Fields) → Small f bounds → Unit {0} × Unit {0}
 none f s = (tt, tt)
 
 -- a load or a store beside SP
-t_sp : (f : Fields) → Small f bounds → All (λ k. k < 16) (f "t" ∷ 13 ∷ []) × Unit {0}
+t_sp : (f : Fields) → Small f bounds → AllByRecursion (λ k. k < 16) (f "t" ∷ 13 ∷ []) × Unit {0}
 t_sp f s = ((s.1.1.1.0, (lit< tt, tt)), tt)
 
-narrow_stand : All Stands narrow_rows
+narrow_stand : AllByRecursion Stands narrow_rows
 unfolding narrow_rows
 narrow_stand =
     -- shift (immediate), add, subtract, move, and compare
@@ -129,7 +129,7 @@ narrow_stand =
     & none & none & none & none & none & none & none & none & none & none & none & none & none & none & none & none & none & tt
 
 -- MSR and MRS
-accessed : (d sysm : ℕ) (make : SpecialRegister → System-op) → ((s : SpecialRegister) → OperandsStand (Ok (System (make s))))
+accessed : (d sysm : ℕ) (make : SpecialRegister → SystemOp) → ((s : SpecialRegister) → OperandsStand (Ok (System (make s))))
     → OperandsStand (special_access d sysm make)
 accessed d sysm make h = on (eqb d 13 || eqb d 15) (listed special_registers sysm)
   where
@@ -138,7 +138,7 @@ accessed d sysm make h = on (eqb d 13 || eqb d 15) (listed special_registers sys
     on false None = tt
     on false (Some s) = h s
 
-wide_stand : All Stands wide_rows
+wide_stand : AllByRecursion Stands wide_rows
 unfolding wide_rows
 wide_stand =
     none & (λ f s. accessed (f "n") (f "s") _ λ _. n f s) & (λ f s. accessed (f "d") (f "s") _ λ _. d f s)
@@ -148,7 +148,7 @@ rows_within : List Row → Bool
 rows_within [] = true
 rows_within (r ∷ rs) = within r.drawn bounds && rows_within rs
 
-found_stands : (b : Bits) → Binary b → (rs : List Row) → rows_within rs ≡ true → All Stands rs → OperandsStand (lookup rs b)
+found_stands : (b : Bits) → Binary b → (rs : List Row) → rows_within rs ≡ true → AllByRecursion Stands rs → OperandsStand (lookup rs b)
 unfolding lookup rows_within
 found_stands b h [] e k = tt
 found_stands b h (r ∷ rs) e k =

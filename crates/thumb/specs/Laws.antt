@@ -1,40 +1,40 @@
 -- What the tables promise besides the answer for each encoding.
 use Rattle.std.specs.Prelude.{◌≡◌, ℕ, ◌+◌, ◌*◌, ◌^◌, ◌<◌, Bool, true, false, List, [], ◌∷◌, IfOk, Err, MatchBool, ◌≢◌}
-use Rattle.std.specs.List.{AllByRecursion as All}
+use Rattle.std.specs.List.{AllByRecursion}
 use Rattle.thumb.specs.Diagram.{Bits, bits_of}
 use Rattle.thumb.specs.Rows.{Row, Answer, narrow_rows, wide_rows}
 use Rattle.thumb.specs.Decoded.{fits, answer, wide_first}
 use Rattle.thumb.specs.declared.instructions.Instruction.{Instruction}
 use Rattle.thumb.specs.declared.instructions.Instruction.TheVariants.{Basic, Data, Special, Unary, Transfer, Multiple, Branch, System}
-use Rattle.thumb.specs.declared.instructions.Basic.{Basic as Basic-op}
+use Rattle.thumb.specs.declared.instructions.Basic.{Basic as BasicOp}
 use Rattle.thumb.specs.declared.instructions.Basic.TheVariants as basic
-use Rattle.thumb.specs.declared.instructions.Special.{Special as Special-op}
+use Rattle.thumb.specs.declared.instructions.Special.{Special as SpecialOp}
 use Rattle.thumb.specs.declared.instructions.Special.TheVariants as special
 use Rattle.thumb.specs.declared.instructions.Address.{Address}
 use Rattle.thumb.specs.declared.instructions.Address.TheVariants.{Indexed, Offset, Literal}
-use Rattle.thumb.specs.declared.instructions.Multiple.{Multiple as Multiple-op}
+use Rattle.thumb.specs.declared.instructions.Multiple.{Multiple as MultipleOp}
 use Rattle.thumb.specs.declared.instructions.Multiple.TheVariants.{Stm, Ldm, Push, Pop}
-use Rattle.thumb.specs.declared.instructions.Branch.{Branch as Branch-op}
+use Rattle.thumb.specs.declared.instructions.Branch.{Branch as BranchOp}
 use Rattle.thumb.specs.declared.instructions.Branch.TheVariants.{B, If, Bl, Bx, Blx}
-use Rattle.thumb.specs.declared.instructions.System.{System as System-op}
+use Rattle.thumb.specs.declared.instructions.System.{System as SystemOp}
 use Rattle.thumb.specs.declared.instructions.System.TheVariants.{Svc, Bkpt, Udf, UdfWide, Cps, Hint, Dsb, Dmb, Isb, Mrs, Msr}
 use Rattle.thumb.specs.declared.instructions.Refusal.TheVariants.{Undefined}
 
 -- no encoding fits two rows of a table
 abbrev pub Apart : List Row → Type 0
 Apart [] = Unit {0}
-Apart (r ∷ rs) = All (λ s. (b : Bits) → fits r b ≡ true → fits s b ≢ true) rs × Apart rs
+Apart (r ∷ rs) = AllByRecursion (λ s. (b : Bits) → fits r b ≡ true → fits s b ≢ true) rs × Apart rs
 
 -- whichever row fits says the answer, and undefined is the answer where none fits
 pub record Told (rows : List Row) (b : Bits) (r : Answer) : Type 0 where
-  pub fitting : All (λ row. fits row b ≡ true → r ≡ answer row b) rows
-  pub otherwise : All (λ row. fits row b ≡ false) rows → r ≡ Err Undefined
+  pub fitting : AllByRecursion (λ row. fits row b ≡ true → r ≡ answer row b) rows
+  pub otherwise : AllByRecursion (λ row. fits row b ≡ false) rows → r ≡ Err Undefined
 
 abbrev pub ToldByItsTable : ℕ → ℕ → Answer → Type 0
 ToldByItsTable first second r =
     MatchBool (wide_first first) (Told wide_rows (bits_of (first * 2 ^ 16 + second)) r) (Told narrow_rows (bits_of first) r)
 
-abbrev pub basic_registers : Basic-op → List ℕ
+abbrev pub basic_registers : BasicOp → List ℕ
 basic_registers (basic.Lsl d m by) = d ∷ m ∷ []
 basic_registers (basic.Lsr d m by) = d ∷ m ∷ []
 basic_registers (basic.Asr d m by) = d ∷ m ∷ []
@@ -48,7 +48,7 @@ basic_registers (basic.CmpByte n imm) = n ∷ []
 basic_registers (basic.AddByte dn imm) = dn ∷ []
 basic_registers (basic.SubByte dn imm) = dn ∷ []
 
-abbrev pub special_data_registers : Special-op → List ℕ
+abbrev pub special_data_registers : SpecialOp → List ℕ
 special_data_registers (special.Add dn m) = dn ∷ m ∷ []
 special_data_registers (special.Cmp n m) = n ∷ m ∷ []
 special_data_registers (special.Mov d m) = d ∷ m ∷ []
@@ -62,20 +62,20 @@ address_registers (Indexed n m) = n ∷ m ∷ []
 address_registers (Offset n imm) = n ∷ []
 address_registers (Literal imm) = []
 
-abbrev pub multiple_registers : Multiple-op → List ℕ
+abbrev pub multiple_registers : MultipleOp → List ℕ
 multiple_registers (Stm n list) = n ∷ []
 multiple_registers (Ldm n list) = n ∷ []
 multiple_registers (Push list lr) = []
 multiple_registers (Pop list pc) = []
 
-abbrev pub branch_registers : Branch-op → List ℕ
+abbrev pub branch_registers : BranchOp → List ℕ
 branch_registers (B offset) = []
 branch_registers (If condition offset) = []
 branch_registers (Bl offset) = []
 branch_registers (Bx m) = m ∷ []
 branch_registers (Blx m) = m ∷ []
 
-abbrev pub system_registers : System-op → List ℕ
+abbrev pub system_registers : SystemOp → List ℕ
 system_registers (Svc imm) = []
 system_registers (Bkpt imm) = []
 system_registers (Udf imm) = []
@@ -103,7 +103,7 @@ registers (System i) = system_registers i
 abbrev pub Lists : ℕ → Bool → Type 0
 Lists list extra = (list < 2 ^ 8) × (list ≡ 0 → extra ≡ true)
 
-abbrev pub MultipleLists : Multiple-op → Type 0
+abbrev pub MultipleLists : MultipleOp → Type 0
 MultipleLists (Stm n list) = Lists list false
 MultipleLists (Ldm n list) = Lists list false
 MultipleLists (Push list lr) = Lists list lr
@@ -121,4 +121,4 @@ InstructionLists (System i) = Unit {0}
 
 -- every register is below 16, and every list is one of eight registers and not empty
 abbrev pub OperandsStand : Answer → Type 0
-OperandsStand r = IfOk r (λ i. All (λ n. n < 16) (registers i) × InstructionLists i)
+OperandsStand r = IfOk r (λ i. AllByRecursion (λ n. n < 16) (registers i) × InstructionLists i)

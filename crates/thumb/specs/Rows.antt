@@ -10,15 +10,15 @@ use Rattle.thumb.specs.declared.instructions.Basic.TheVariants as basic
 use Rattle.thumb.specs.declared.instructions.Operation.{Operation}
 use Rattle.thumb.specs.declared.instructions.Operation.TheVariants as op
 use Rattle.thumb.specs.declared.instructions.Special.TheVariants as special
-use Rattle.thumb.specs.declared.instructions.Unary.{Unary as Unary-op}
+use Rattle.thumb.specs.declared.instructions.Unary.{Unary as UnaryOp}
 use Rattle.thumb.specs.declared.instructions.Unary.TheVariants.{Sxth, Sxtb, Uxth, Uxtb, Rev, Rev16, Revsh}
-use Rattle.thumb.specs.declared.instructions.Transfer.{Transfer as Transfer-op}
+use Rattle.thumb.specs.declared.instructions.Transfer.{Transfer as TransferOp}
 use Rattle.thumb.specs.declared.instructions.Transfer.TheVariants.{Str, Strh, Strb, Ldrsb, Ldr, Ldrh, Ldrb, Ldrsh}
 use Rattle.thumb.specs.declared.instructions.Address.TheVariants.{Indexed, Offset, Literal}
 use Rattle.thumb.specs.declared.instructions.Multiple.TheVariants.{Stm, Ldm, Push, Pop}
 use Rattle.thumb.specs.declared.instructions.Branch.TheVariants.{B, If, Bl, Bx, Blx}
 use Rattle.thumb.specs.declared.instructions.SpecialRegister.{SpecialRegister}
-use Rattle.thumb.specs.declared.instructions.System.{System as System-op}
+use Rattle.thumb.specs.declared.instructions.System.{System as SystemOp}
 use Rattle.thumb.specs.declared.instructions.System.TheVariants.{Svc, Bkpt, Udf, UdfWide, Cps, Hint, Dsb, Dmb, Isb, Mrs, Msr}
 use Rattle.thumb.specs.declared.instructions.Refusal.{Refusal}
 use Rattle.thumb.specs.declared.instructions.Refusal.TheVariants.{Unpredictable}
@@ -45,28 +45,28 @@ unless b i = cond b (Err Unpredictable) (Ok i)
 abbrev pub on_two : Operation → String → String → Fields → Answer
 on_two o dn m f = Ok (Data o (f dn) (f m))
 
-abbrev pub on_one : Unary-op → Fields → Answer
+abbrev pub on_one : UnaryOp → Fields → Answer
 on_one o f = Ok (Unary o (f "d") (f "m"))
 
-abbrev pub indexed : Transfer-op → Fields → Answer
+abbrev pub indexed : TransferOp → Fields → Answer
 indexed o f = Ok (Transfer o (f "t") (Indexed (f "n") (f "m")))
 
 -- an immediate followed by zeros is a multiple of 2 or 4
-abbrev pub offset : Transfer-op → ℕ → Fields → Answer
+abbrev pub offset : TransferOp → ℕ → Fields → Answer
 offset o scale f = Ok (Transfer o (f "t") (Offset (f "n") (f "i" * scale)))
 
-abbrev pub stacked : Transfer-op → Fields → Answer
+abbrev pub stacked : TransferOp → Fields → Answer
 stacked o f = Ok (Transfer o (f "t") (Offset 13 (f "i" * 4)))
 
 abbrev pub branch_if : Condition → Fields → Answer
 branch_if c f = Ok (Branch (If c (branch_offset 9 (f "i"))))
 
-abbrev pub chosen : Option SpecialRegister → (SpecialRegister → System-op) → Answer
+abbrev pub chosen : Option SpecialRegister → (SpecialRegister → SystemOp) → Answer
 chosen None make = Err Unpredictable
 chosen (Some s) make = Ok (System (make s))
 
 -- "if d IN {13,15} || !(UInt(SYSm) IN {0..3,5..9,16,20}) then UNPREDICTABLE"
-abbrev pub special_access : ℕ → ℕ → (SpecialRegister → System-op) → Answer
+abbrev pub special_access : ℕ → ℕ → (SpecialRegister → SystemOp) → Answer
 special_access d sysm make =
     cond (d == 13 || d == 15) (Err Unpredictable) (chosen (listed special_registers sysm) make)
 

@@ -9,4 +9,5 @@ invariant_of-self g c =
     let s = c.in_ok-self.field-0 in
     let before = world_of bus.bytes bus.verdict c.args.bus.now in
     let after = world_of bus.bytes bus.verdict c.boot.new.bus in
-    keeps s (begins before after s c.in_ok-self.ensures.runs).0
+    let kept = keeps s (begins before after s c.in_ok-self.ensures.runs).0 in
+    record { even = kept.even; main = kept.main; process = kept.process; mode = kept.mode; current = kept.current }

@@ -8,7 +8,8 @@ invariant_of-self g c =
     let bus = g.B.Bus in
     let before = world_of bus.bytes bus.verdict c.args.bus.now in
     let after = world_of bus.bytes bus.verdict c.step.new.bus in
-    keeps c.step.new.r (step_sound c.args.self.now.registers c.step.new.r before after (stepped c.step.result) (sound_core c.args.self.now) c.step.ensures.runs)
+    let kept = keeps c.step.new.r (step_sound c.args.self.now.registers c.step.new.r before after (stepped c.step.result) (sound_core c.args.self.now) c.step.ensures.runs) in
+    record { even = kept.even; main = kept.main; process = kept.process; mode = kept.mode; current = kept.current }
 
 pub returns : goal.returns
 returns g c =
