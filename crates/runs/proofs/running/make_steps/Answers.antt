@@ -7,7 +7,7 @@ use Rattle.runs.proofs.Remainder.{Remainder, goes_on, whole_at_limit, whole_when
 use Rattle.runs.proofs.Steps.{went, leaves, turned_away}
 use Rattle.runs.proofs.running.make_steps.Given.{Over}
 use Rattle.runs.proofs.running.make_steps.Goals as goal
-use Rattle.runs.proofs.running.make_steps.Goals.{else-loop-steps-test, then-loop-steps-test+in-default}
+use Rattle.runs.proofs.running.make_steps.Goals.{else-loop-steps-test, then-loop-steps-test+in_default}
 
 -- a core over a bus
 abbrev seen : (g : Over) → Core → g.row.B.Denot → Machine
@@ -41,7 +41,7 @@ returns g c =
             leaves = ap₂ (seen g) w.core-is w.bus-is ∙ ends.1;
             settled = ap g.B.Bus.settings w.bus-is ∙ c.loop-steps.invariant.1;
           }
-      | then-loop-steps-test+in-default w ↦
+      | then-loop-steps-test+in_default w ↦
           let there : Machine = seen g w.step.new.self w.step.new.bus in
           let turned = turned_away here there w.step.result w.step.ensures.runs w.in_default.field-0 w.in_default.is in
           let ends = whole_when_locked t.none t.one t.joined g.met.T.Tally.laws c.args.limit c.loop-steps.steps c.loop-steps.tally start here c.loop-steps.invariant.0 turned.0 in

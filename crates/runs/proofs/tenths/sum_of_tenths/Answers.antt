@@ -8,8 +8,8 @@ pub loop-index-init : goal.loop-index-init
 unfolding sum_of_first
 loop-index-init c = (refl, omega (arith, ints), omega (arith, ints))
 
-pub overflow-add-sum : goal.overflow-add-sum
-overflow-add-sum c = omega (arith, ints)
+pub overflow_add-sum : goal.overflow_add-sum
+overflow_add-sum c = omega (arith, ints)
 
 pub loop-index-preserved : goal.loop-index-preserved
 unfolding sum_of_first
