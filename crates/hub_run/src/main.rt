@@ -11,6 +11,7 @@ use crate::error::HubError;
 use image::IMAGE;
 use memory::FLASH_SIZE;
 use options::{Asked, Options};
+use std::process::ExitCode;
 use std::{env, fs};
 
 const HELP: &str = "\
@@ -24,12 +25,14 @@ hub --help                 print this
     --tick N     steps from one SysTick to the next: 1 to 100000, 150 unless given
     --trace      print every step";
 
-fn main(rt: HostRuntime) -> Result<(), HubError> {
-    let ended = answer(&rt);
-    if let Err(error) = &ended {
-        eprintln!(rt; "hub: {error}")?;
+fn main(rt: HostRuntime) -> ExitCode {
+    match answer(&rt) {
+        Ok(()) => ExitCode::SUCCESS,
+        Err(error) => {
+            let _ = eprintln!(rt; "hub: {error}");
+            ExitCode::FAILURE
+        }
     }
-    ended
 }
 
 // Does what the command line asks for.

@@ -2,8 +2,14 @@
 #![tactic(auto)]
 
 use image::IMAGE;
-use memory::Trouble;
+use std::process::ExitCode;
 
-fn main(rt: HostRuntime) -> Result<(), Trouble> {
-    script::show(&rt, &IMAGE, script::STORY)
+fn main(rt: HostRuntime) -> ExitCode {
+    match script::show(&rt, &IMAGE, script::STORY) {
+        Ok(()) => ExitCode::SUCCESS,
+        Err(trouble) => {
+            let _ = eprintln!(rt; "story: {trouble}");
+            ExitCode::FAILURE
+        }
+    }
 }
