@@ -1,14 +1,12 @@
 -- While one flat runs, its neighbour's RAM and code are shut.
-use Rattle.std.proofs.Common.{◌≡◌, ℕ, ◌/◌, ◌%◌, ◌^◌, ◌<◌, Bool, true, false, ◌&&◌, eqb, ◌⊎◌, List, [], ◌∷◌, length, drop, replicate, Some, refl, ap, ◌∙◌, inl, inr, arith, eq-eqb, ne_eqb, eqb-true}
+use Rattle.std.proofs.Common.{◌≡◌, ℕ, ◌/◌, ◌^◌, ◌<◌, Bool, true, false, ◌&&◌, eqb, List, [], ◌∷◌, length, drop, replicate, Some, refl, ap, ◌∙◌, inl, inr, arith, eq-eqb, ne_eqb, eqb-true}
 use native.Mathlib.Nat.{zero-div}
-use Rattle.bus.specs.declared.access.Access.{Access}
 use Rattle.bus.specs.declared.access.Right.{Right}
 use Rattle.bus.specs.declared.access.Use.{Use}
 use Rattle.bus.specs.declared.access.Use.TheVariants.{Fetch, Read, Write}
 use Rattle.parts.specs.Region.{off_region, eighth, is_privileged, covers, permits_use}
 use Rattle.parts.specs.RegionCheck.{covered_by, deciding, passes_by, passes}
 use Rattle.parts.specs.declared.region.Region.{Region}
-use Rattle.parts.specs.declared.region.Rights.{Rights}
 use Rattle.parts.specs.declared.region.Rights.TheVariants.{Privileged}
 use Rattle.parts.proofs.Deciders.{greatest_hit, greatest_miss}
 use Rattle.memory.specs.Flats.{neighbour, handed_to, Spare, Shut}

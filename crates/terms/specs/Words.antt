@@ -1,5 +1,5 @@
 -- Causes, kinds of parts, exceptions and refusals in words.
-use Rattle.std.specs.Prelude.{ℕ, cond, ◌&&◌, List, codes, ◌==◌, nat_lt}
+use Rattle.std.specs.Prelude.{ℕ, cond, List, codes, ◌==◌, nat_lt}
 use Rattle.bus.specs.declared.fault.Cause.{Cause}
 use Rattle.bus.specs.declared.fault.Cause.TheVariants.{Unmapped, ReadOnly, WrongWidth, Forbidden, Misaligned, Undefined, Unpredictable, Breakpoint, NotThumb, SupervisorCallTooLow, BadReturn}
 use Rattle.bus.specs.declared.refusal.Refusal.{Refusal}

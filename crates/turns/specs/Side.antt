@@ -1,8 +1,8 @@
 -- Two tallies side by side keep the laws of each.
 use Rattle.std.specs.Prelude.{◌≡◌, List, [], ◌∷◌, refl}
-use Rattle.std.proofs.Common.{ap, ap₂, sym, subst, ◌∙◌}
+use Rattle.std.proofs.Common.{ap, ap₂, sym, subst}
 use Rattle.arch.specs.declared.answers.Answer.{Answer}
-use Rattle.runs.specs.Counts.{no_counts, count_of, added, counts_of}
+use Rattle.runs.specs.Counts.{counts_of}
 use Rattle.runs.specs.FaultSpan.{no_span, span_of, hull}
 use Rattle.runs.specs.Tally.{Laws, Commuting, tally}
 use Rattle.runs.specs.Counting.{counts_laws, counts_commute, counted}

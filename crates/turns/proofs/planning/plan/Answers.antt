@@ -1,5 +1,5 @@
-use Rattle.std.proofs.Common.{◌≡◌, ◌+◌, ◌/◌, ◌++◌, sym, ap, ◌∙◌, arith}
-use Rattle.turns.specs.Plan.{opening, first_steps, step_with_due}
+use Rattle.std.proofs.Common.{◌≡◌, ◌/◌, ◌++◌, sym, ap, ◌∙◌, arith}
+use Rattle.turns.specs.Plan.{opening, first_steps}
 use Rattle.turns.proofs.Plans.{no_steps, more_steps}
 use Rattle.turns.proofs.planning.plan.Goals as goal
 
