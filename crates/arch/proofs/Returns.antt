@@ -27,7 +27,7 @@ Gives s (Ok t) = Returning s t
 Gives s (Err f) = Unit {0}
 
 -- of the two ways to return, the one that is not to Handler mode asks for a single active exception
-alone : (to-handler others single : Bool) → ((to-handler && not single) || (others && single)) ≡ true → not to-handler ≡ true → single ≡ true
+alone : (to_handler others single : Bool) → ((to_handler && not single) || (others && single)) ≡ true → not to_handler ≡ true → single ≡ true
 alone true others single may thread = absurd (false≢true thread)
 alone false others single may thread = (and_parts others single may).1
 

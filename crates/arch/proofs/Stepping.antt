@@ -86,9 +86,9 @@ module _ (s : Registers) (sound : Sound s) where
 
   -- no mode, no active exception and no privilege has changed
   unmoved : (r : Response) (t : Registers) → Running s t → return r ≡ false → entry r ≡ false → Kept r s t → Post s (r, t)
-  unmoved r t h no_return no-entry kept = record {
+  unmoved r t h no_return no_entry kept = record {
     sound = running_sound t h;
-    balanced = ap₂ (λ set b. ones set + one_if b) h.active (no_return ∙ sym no-entry);
+    balanced = ap₂ (λ set b. ones set + one_if b) h.active (no_return ∙ sym no_entry);
     kept = kept;
     unprivileged = λ low. inr (running_low t h low);
   }

@@ -1,7 +1,7 @@
 // One step: an exception is taken up, or an instruction runs.
 ghost use Rattle.std.specs.Prelude.{◌≡◌, Err};
 ghost use Rattle.bus.specs.Program.{run, bind, done, world_of};
-ghost use Rattle.arch.specs.Step.{execute as execute_of, perform_decoded, instruction as instruction_of, settle, step as step_of_lem};
+ghost use Rattle.arch.specs.Step.{execute as execute_of, perform_decoded, instruction as instruction_of, settle, step as step_of};
 ghost use Rattle.arch.specs.declared.answers.Response.TheVariants.{Stepped};
 ghost use Rattle.exec.specs.Outcome.{outcome, KeptAt};
 ghost use Rattle.thumb.specs.Decoded.{decoded};
@@ -126,7 +126,7 @@ fn run_instruction<B: Bus>(r: &mut Registers, bus: &mut B) -> Answer
 }
 
 pub fn step<B: Bus>(r: &mut Registers, bus: &mut B) -> Result<Answer, Refusal>
-    ensures runs { run (step_of_lem r.old) (world_of B.Bus.bytes B.Bus.verdict bus.old) ≡ ((stepped result, r.new), world_of B.Bus.bytes B.Bus.verdict bus.new) }
+    ensures runs { run (step_of r.old) (world_of B.Bus.bytes B.Bus.verdict bus.old) ≡ ((stepped result, r.new), world_of B.Bus.bytes B.Bus.verdict bus.new) }
     ensures settled { B.Bus.settings bus.new ≡ B.Bus.settings bus.old }
 {
     match (r.locked, state::chosen(r)) {

@@ -43,16 +43,16 @@ module _ (limit : ℕ) (w₁ w₂ : Access → Verdict) (a : Access) (b : Bool) 
   pub split_value : (m₁ m₂ : Bytes) → handed_up_answer (answer (cond b (w₁ a) (w₂ a)) (replied (cond b m₁ m₂) a)) ≡ answer (split_verdict limit w₁ w₂ a) (replied (joined limit m₁ m₂) a)
   split_value m₁ m₂ = answer_lifted (cond b (w₁ a) (w₂ a)) (replied (cond b m₁ m₂) a) ∙ rw (asked, same_reply m₁ m₂)
 
-  module _ (m₁ m₂ n₁ n₂ : Bytes) (v : ℕ) (other-side : cond b n₂ n₁ ≡ cond b m₂ m₁) where
+  module _ (m₁ m₂ n₁ n₂ : Bytes) (v : ℕ) (other_side : cond b n₂ n₁ ≡ cond b m₂ m₁) where
     whole_store : cond b n₁ n₂ ≡ store (bytes_of a) (cond b m₁ m₂) a.address v → joined limit n₁ n₂ ≡ store (bytes_of a) (joined limit m₁ m₂) a.address v
     whole_store stored = store_unique (bytes_of a) (joined limit m₁ m₂) (joined limit n₁ n₂) a.address v
         (λ y covered. joined_at limit n₁ n₂ y b (covered_side y covered) ∙ ap (λ (m : Bytes). m y) stored ∙ store_byte (bytes_of a) (cond b m₁ m₂) a.address v y ∙ rw covered)
-        (λ y outside. joined_outside limit b (below limit y) m₁ m₂ n₁ n₂ y refl (ap (λ (m : Bytes). m y) stored ∙ store_outside (bytes_of a) (cond b m₁ m₂) a.address v y outside) other-side)
+        (λ y outside. joined_outside limit b (below limit y) m₁ m₂ n₁ n₂ y refl (ap (λ (m : Bytes). m y) stored ∙ store_outside (bytes_of a) (cond b m₁ m₂) a.address v y outside) other_side)
 
     by_cases : (w : Verdict) (writes : Bool) → cond b n₁ n₂ ≡ after w (cond writes (store (bytes_of a) (cond b m₁ m₂) a.address v) (cond b m₁ m₂)) (cond b m₁ m₂) → joined limit n₁ n₂ ≡ after w (cond writes (store (bytes_of a) (joined limit m₁ m₂) a.address v) (joined limit m₁ m₂)) (joined limit m₁ m₂)
-    by_cases (Some f) writes kept = joined_same limit b m₁ m₂ n₁ n₂ kept other-side
+    by_cases (Some f) writes kept = joined_same limit b m₁ m₂ n₁ n₂ kept other_side
     by_cases None true stored = whole_store stored
-    by_cases None false kept = joined_same limit b m₁ m₂ n₁ n₂ kept other-side
+    by_cases None false kept = joined_same limit b m₁ m₂ n₁ n₂ kept other_side
 
     pub split_contents : cond b n₁ n₂ ≡ after (cond b (w₁ a) (w₂ a)) (written (cond b m₁ m₂) a v) (cond b m₁ m₂) → joined limit n₁ n₂ ≡ after (split_verdict limit w₁ w₂ a) (written (joined limit m₁ m₂) a v) (joined limit m₁ m₂)
     split_contents changed =

@@ -14,8 +14,8 @@ use Rattle.parts.proofs.Placed.{load_placed, store_placed}
 -- an allowed access begins at or above the base
 above_base : (s : Strip) (a : Access) → strip_verdict s a ≡ None → s.base ≤ a.address
 above_base s a allowed =
-    let lies-inside = (refused_if_none _ _ _ (refused_if_none _ _ _ allowed).1).0 in
-    leb-true _ _ (and_parts _ _ (not-false _ lies-inside)).0
+    let lies_inside = (refused_if_none _ _ _ (refused_if_none _ _ _ allowed).1).0 in
+    leb-true _ _ (and_parts _ _ (not-false _ lies_inside)).0
 
 module _ (s : Strip) (a : Access) (width : Width) (at : ℕ) (begins : Ok at ≡ answer (strip_verdict s a) (a.address - s.base)) (wide : width ≡ width_of a.usage) where
   allowed : strip_verdict s a ≡ None

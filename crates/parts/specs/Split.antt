@@ -33,7 +33,7 @@ bears_either : (b : Bool) (a : Access) (v w : Verdict) → Bears a v → Bears a
 bears_either true a v w h k = h
 bears_either false a v w h k = k
 
-pub split_laws : {L U : Type 0} {i j : ℕ} {lower : L → Bytes} {upper : U → Bytes} {below-says : L → Access → Verdict} {above-says : U → Access → Verdict} → Laws i lower below-says → Laws j upper above-says → Laws {S = Split L U} 3 (λ s. joined s.limit (lower s.lower) (upper s.upper)) (λ s. split_verdict s.limit (below-says s.lower) (above-says s.upper))
+pub split_laws : {L U : Type 0} {i j : ℕ} {lower : L → Bytes} {upper : U → Bytes} {below_says : L → Access → Verdict} {above_says : U → Access → Verdict} → Laws i lower below_says → Laws j upper above_says → Laws {S = Split L U} 3 (λ s. joined s.limit (lower s.lower) (upper s.upper)) (λ s. split_verdict s.limit (below_says s.lower) (above_says s.upper))
 split_laws laws laws' = record {
   byte = λ s x. byte_of_either (below s.limit x) _ _ (laws.byte s.lower x) (laws'.byte s.upper x);
   alignment = λ s a. alignment_first a _ _;

@@ -1,7 +1,7 @@
 // Panel words as temperatures: signed hundredths of a degree, read as tenths.
 ghost use Rattle.std.specs.Prelude.{◌≡◌, pos, ◌≤ℤ◌, if◌then◌else◌, Ok, Err, nat_lt, slice_index};
 ghost use Rattle.bus.specs.declared.refusal.Refusal.TheVariants.{OutOfRange};
-ghost use Rattle.runs.specs.Tenths.{hundredths, rounded, Rounded, summed, sum_of_first};
+ghost use Rattle.runs.specs.Tenths.{hundredths as hundredths_of, rounded, Rounded, summed, sum_of_first};
 
 use bus::Refusal;
 use parts::Panel;
@@ -19,15 +19,15 @@ fn rounded_to_tenths(hundredths: i64) -> i64
 
 // A word as a temperature.
 pub fn tenths_of(word: u32) -> i32
-    ensures value { result ≡ rounded (hundredths word) }
-    ensures bounds { Rounded (hundredths word) result }
+    ensures value { result ≡ rounded (hundredths_of word) }
+    ensures bounds { Rounded (hundredths_of word) result }
 {
     let hundredths = i64::from(word.cast_signed());
     rounded_to_tenths(hundredths) as i32
 }
 
 pub fn panel_tenths(panel: &Panel, index: u32) -> Result<i32, Refusal>
-    ensures { result ≡ (if nat_lt index 16 then Ok (rounded (hundredths (slice_index panel.now.words index))) else Err OutOfRange) }
+    ensures { result ≡ (if nat_lt index 16 then Ok (rounded (hundredths_of (slice_index panel.now.words index))) else Err OutOfRange) }
 {
     let word = panel.word(index)?;
     Ok(tenths_of(word))

@@ -34,7 +34,7 @@ by_kind Ror x n = ror_c x n
 
 -- Shift_C(x, kind, n, carry_in)
 abbrev pub shift_c : Shift → ℕ → ℕ → Bool → Shifted
-shift_c kind x n carry-in = cond (n == 0) (record { value = x; carry = carry-in }) (by_kind kind x n)
+shift_c kind x n carry_in = cond (n == 0) (record { value = x; carry = carry_in }) (by_kind kind x n)
 
 -- where bit k of the shifted word comes from
 abbrev pub bit_after : Shift → ℕ → ℕ → ℕ → Bool

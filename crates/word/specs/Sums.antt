@@ -8,17 +8,17 @@ abbrev pub one_if : Bool → ℕ
 one_if b = cond b 1 0
 
 abbrev pub unsigned_sum : ℕ → ℕ → Bool → ℕ
-unsigned_sum x y carry-in = x + y + one_if carry-in
+unsigned_sum x y carry_in = x + y + one_if carry_in
 
 abbrev pub signed_sum : ℕ → ℕ → Bool → ℤ
-signed_sum x y carry-in = (signed 32 x +ℤ signed 32 y) +ℤ pos (one_if carry-in)
+signed_sum x y carry_in = (signed 32 x +ℤ signed 32 y) +ℤ pos (one_if carry_in)
 
 -- AddWithCarry(x, y, carry_in)
 abbrev pub add_with_carry : ℕ → ℕ → Bool → Sum
-add_with_carry x y carry-in =
-    let result : ℕ = unsigned_sum x y carry-in % 2 ^ 32 in
+add_with_carry x y carry_in =
+    let result : ℕ = unsigned_sum x y carry_in % 2 ^ 32 in
     record {
       value = result;
-      carry = not (result == unsigned_sum x y carry-in);
-      overflow = not (eqZ (signed 32 result) (signed_sum x y carry-in));
+      carry = not (result == unsigned_sum x y carry_in);
+      overflow = not (eqZ (signed 32 result) (signed_sum x y carry_in));
     }

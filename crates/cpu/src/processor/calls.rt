@@ -2,7 +2,7 @@
 ghost use Rattle.std.specs.Prelude.{◌≡◌};
 ghost use Rattle.bus.specs.Program.{run, world_of};
 ghost use Rattle.arch.specs.Laws.{Kept};
-ghost use Rattle.arch.specs.Step.{step as step_of_lem, external as is_external, raisable as is_raisable, rankable as is_rankable, raised, armed, ranked, answer_to};
+ghost use Rattle.arch.specs.Step.{step as step_of, external as is_external, raisable as is_raisable, rankable as is_rankable, raised, armed, ranked, answer_to};
 ghost use Rattle.cpu.specs.Responses.{stepped, accepted};
 
 use super::Core;
@@ -48,7 +48,7 @@ impl Core {
 
     // One step; a locked core makes none. A fault leaves the registers, but for HardFault pending or the lock mark.
     pub fn step<B: Bus>(&mut self, bus: &mut B) -> Result<Answer, Refusal>
-        ensures runs { run (step_of_lem self.old.registers) (world_of B.Bus.bytes B.Bus.verdict bus.old) ≡ ((stepped result, self.new.registers), world_of B.Bus.bytes B.Bus.verdict bus.new) }
+        ensures runs { run (step_of self.old.registers) (world_of B.Bus.bytes B.Bus.verdict bus.old) ≡ ((stepped result, self.new.registers), world_of B.Bus.bytes B.Bus.verdict bus.new) }
         ensures kept { Kept (stepped result) self.old.registers self.new.registers }
         ensures settled { B.Bus.settings bus.new ≡ B.Bus.settings bus.old }
     {

@@ -24,9 +24,9 @@ returns-in-Ok g c =
     let before = world_of bus.bytes bus.verdict c.args.bus.now in
     let after = world_of bus.bytes bus.verdict c.instruction.new.bus in
     let made = c.in-Ok.ensures in
-    let settled-as = settled_flow s t flow ∙ ap (λ a. (Stepped a, t)) (sym c.answer.ensures) in
+    let settled_as = settled_flow s t flow ∙ ap (λ a. (Stepped a, t)) (sym c.answer.ensures) in
     record {
-      runs = run_on (instruction s) (λ r. done (settle s r)) before after (Ok (ended flow t)) made.runs ∙ ap (λ (x : Response × Registers). (x, after)) settled-as;
+      runs = run_on (instruction s) (λ r. done (settle s r)) before after (Ok (ended flow t)) made.runs ∙ ap (λ (x : Response × Registers). (x, after)) settled_as;
       settled = made.settled;
     }
 
@@ -38,8 +38,8 @@ returns-in-Err g c =
     let before = world_of bus.bytes bus.verdict c.args.bus.now in
     let after = world_of bus.bytes bus.verdict c.instruction.new.bus in
     let refused = c.in-Err.ensures in
-    let settled-as = c.settle_fault.ensures ∙ ap (λ (t : Registers). settle t (Err f)) refused.kept in
+    let settled_as = c.settle_fault.ensures ∙ ap (λ (t : Registers). settle t (Err f)) refused.kept in
     record {
-      runs = run_on (instruction s) (λ r. done (settle s r)) before after (Err f) refused.runs ∙ ap (λ (x : Response × Registers). (x, after)) (sym settled-as);
+      runs = run_on (instruction s) (λ r. done (settle s r)) before after (Err f) refused.runs ∙ ap (λ (x : Response × Registers). (x, after)) (sym settled_as);
       settled = refused.settled;
     }
