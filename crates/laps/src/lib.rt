@@ -8,7 +8,6 @@ mod tests {
     use cpu::Core;
     use parts::{Panel, Strip};
     use runs::{Counts, FaultSpan, Outcome, Tally};
-    use std::process::Abort;
     use std::test::Fail;
 
     // What was made, or a failed test.
@@ -61,49 +60,70 @@ mod tests {
         Ok((outcome.steps, all(outcome.tally)))
     }
 
-    fn try_bounds<B: Bus>(rt: &impl Abort, bus: &mut B) -> Result<(), Fail> {
-        // b .
-        let mut core = booted(bus, 0xe7fe)?;
-        assert_eq!(rt; counted(&mut core, bus, 0)?, (0, [0, 0, 0, 0, 0]));
-        assert_eq!(rt;
-            counted(&mut core, bus, 65535)?,
-            (65535, [65535, 0, 0, 0, 0])
-        );
-        let beyond: Result<Outcome<Counts>, Refusal> = runs::run(&mut core, bus, 65536);
-        assert_eq!(rt; refusal(beyond), 12);
-        let parts: Outcome<Counts> = made(runs::run_twice(&mut core, bus, 65535, 1))?;
-        assert_eq!(rt;
-            (parts.steps, all(parts.tally)),
-            (65536, [65536, 0, 0, 0, 0])
-        );
-        Ok(())
+    // The steps of runs of the shortest and the longest length and of one in two parts, with their counts; and the number
+    // that a longer one is turned away with.
+    #[derive(Clone, Copy)]
+    struct Bounds {
+        shortest: (u32, [u64; 5]),
+        longest: (u32, [u64; 5]),
+        in_parts: (u32, [u64; 5]),
+        beyond: u8,
     }
 
-    fn try_lock<B: Bus>(rt: &impl Abort, bus: &mut B) -> Result<(), Fail> {
+    fn run_bounds<B: Bus>(bus: &mut B) -> Result<Bounds, Fail> {
+        // b .
+        let mut core = booted(bus, 0xe7fe)?;
+        let shortest = counted(&mut core, bus, 0)?;
+        let longest = counted(&mut core, bus, 65535)?;
+        let beyond: Result<Outcome<Counts>, Refusal> = runs::run(&mut core, bus, 65536);
+        let parts: Outcome<Counts> = made(runs::run_twice(&mut core, bus, 65535, 1))?;
+        Ok(Bounds {
+            shortest,
+            longest,
+            in_parts: (parts.steps, all(parts.tally)),
+            beyond: refusal(beyond),
+        })
+    }
+
+    // A run that ends with a lock, and one of the locked core.
+    #[derive(Drop)]
+    struct Locking {
+        first: Outcome<FaultSpan>,
+        afterwards: (u32, [u64; 5]),
+    }
+
+    fn run_locking<B: Bus>(bus: &mut B) -> Result<Locking, Fail> {
         // udf: it faults, HardFault is taken up, and its handler at 0 is no Thumb code
         let mut core = booted(bus, 0xde00)?;
-        let span: Outcome<FaultSpan> = made(runs::run_twice(&mut core, bus, 2, 9))?;
-        assert_eq!(rt; span.steps, 3);
-        match span.tally {
-            FaultSpan::Between(least, greatest) => assert_eq!(rt; (least, greatest), (0, 8)),
-            FaultSpan::NoFault => return Err(Fail::new("no fault")),
-        }
-        assert_eq!(rt; counted(&mut core, bus, 5)?, (0, [0, 0, 0, 0, 0]));
-        Ok(())
+        let first: Outcome<FaultSpan> = made(runs::run_twice(&mut core, bus, 2, 9))?;
+        let afterwards = counted(&mut core, bus, 5)?;
+        Ok(Locking { first, afterwards })
     }
 
     #[test]
     fn runs_have_a_longest(rt: HostRuntime) -> Result<(), Fail> {
         let mut bytes = vec![in rt.alloc(); 0u8; 0x100]?;
         let mut bus = made(Strip::new(&mut bytes, 0, 0))?;
-        try_bounds(&rt, &mut bus)
+        let bounds = run_bounds(&mut bus)?;
+        assert_eq!(rt; bounds.shortest, (0, [0, 0, 0, 0, 0]));
+        assert_eq!(rt; bounds.longest, (65535, [65535, 0, 0, 0, 0]));
+        assert_eq!(rt; bounds.beyond, 12);
+        assert_eq!(rt; bounds.in_parts, (65536, [65536, 0, 0, 0, 0]));
+        Ok(())
     }
 
     #[test]
     fn a_lock_ends_a_run(rt: HostRuntime) -> Result<(), Fail> {
         let mut bytes = vec![in rt.alloc(); 0u8; 0x100]?;
         let mut bus = made(Strip::new(&mut bytes, 0, 0))?;
-        try_lock(&rt, &mut bus)
+        let locking = run_locking(&mut bus)?;
+        assert_eq!(rt; locking.first.steps, 3);
+        match locking.first.tally {
+            FaultSpan::Between(least, greatest) => assert_eq!(rt; (least, greatest), (0, 8)),
+            FaultSpan::NoFault => return Err(Fail::new("no fault")),
+        }
+        assert_eq!(rt; locking.afterwards, (0, [0, 0, 0, 0, 0]));
+        Ok(())
     }
 
     #[test]

@@ -5,7 +5,7 @@
 mod tests {
     use bus::{Access, Bus, Refusal, Right, Use, Width};
     use parts::{Limit, Panel, RegionCheck, Setting, Split, Strip};
-    use std::process::Abort;
+    use std::fmt;
     use std::test::Fail;
 
     // What an access should answer: a value, or a fault by the numbers of its cause, its kind and its hops.
@@ -61,26 +61,44 @@ mod tests {
         }
     }
 
-    fn try_rows<B: Bus>(rt: &impl Abort, bus: &mut B, rows: &[Row]) -> Result<(), Fail> {
+    // A number that is not the one expected.
+    #[derive(Clone, Copy)]
+    struct Differing {
+        got: u32,
+        wanted: u32,
+    }
+
+    impl fmt::Display for Differing {
+        fn fmt<W: fmt::Write>(&self, f: &mut fmt::Formatter<W>) -> fmt::Result {
+            let got = self.got;
+            let wanted = self.wanted;
+            write!(f, "got {got}, and {wanted} was expected")
+        }
+    }
+
+    fn expect(got: u32, wanted: u32) -> Result<(), Fail> {
+        if got == wanted {
+            Ok(())
+        } else {
+            Err(Fail::new(Differing { got, wanted }))
+        }
+    }
+
+    fn try_rows<B: Bus>(bus: &mut B, rows: &[Row]) -> Result<(), Fail> {
         for row in rows {
-            try_row(rt, bus, *row)?;
+            try_row(bus, *row)?;
         }
         Ok(())
     }
 
-    fn try_row<B: Bus>(rt: &impl Abort, bus: &mut B, row: Row) -> Result<(), Fail> {
+    fn try_row<B: Bus>(bus: &mut B, row: Row) -> Result<(), Fail> {
         match (bus.access(row.access, row.value), row.expected) {
-            (Ok(got), Expected::Value(wanted)) => {
-                assert_eq!(rt; got, wanted);
-                Ok(())
-            },
+            (Ok(got), Expected::Value(wanted)) => expect(got, wanted),
             (Err(fault), Expected::Fault(cause, kind, hops)) => {
-                assert_eq!(rt; fault.address, row.access.address);
-                assert_eq!(rt;
-                    (fault.cause.number(), fault.kind, fault.hops),
-                    (cause, kind, hops)
-                );
-                Ok(())
+                expect(fault.address, row.access.address)?;
+                expect(u32::from(fault.cause.number()), u32::from(cause))?;
+                expect(u32::from(fault.kind), u32::from(kind))?;
+                expect(u32::from(fault.hops), u32::from(hops))
             }
             (Ok(_), Expected::Fault(_, _, _)) => Err(Fail::new("allowed, not refused")),
             (Err(_), Expected::Value(_)) => Err(Fail::new("refused, not allowed")),
@@ -144,7 +162,6 @@ mod tests {
         let host = Right::Privileged;
         let done = Expected::Value(0);
         try_rows(
-            &rt,
             &mut pile,
             &[
                 fetch(user, 0x02, Expected::Value(0x5a5a)),
@@ -180,7 +197,6 @@ mod tests {
         let user = Right::Unprivileged;
         let host = Right::Privileged;
         try_rows(
-            &rt,
             &mut pile,
             &[
                 read(host, Width::Byte, 0x120, Expected::Fault(1, 1, 2)),
@@ -219,7 +235,6 @@ mod tests {
         let mut bytes = vec![in rt.alloc(); 0u8; 8]?;
         let mut strip = built(Strip::new(&mut bytes, 0, 0))?;
         try_row(
-            &rt,
             &mut strip,
             read(
                 Right::Privileged,
@@ -230,7 +245,6 @@ mod tests {
         )?;
         let mut panel = built(Panel::new(0x40))?;
         try_row(
-            &rt,
             &mut panel,
             read(
                 Right::Privileged,
@@ -242,7 +256,6 @@ mod tests {
         let limit = built(Limit::new(0x40))?;
         let mut split = Split::new(limit, strip, panel);
         try_row(
-            &rt,
             &mut split,
             read(
                 Right::Privileged,
@@ -324,7 +337,6 @@ mod tests {
         assert_eq!(rt; pile.decider(0x100), Some(7));
         let user = Right::Unprivileged;
         try_rows(
-            &rt,
             &mut pile,
             &[
                 write(user, Width::Word, 0x100, 9, Expected::Fault(4, 4, 0)),
