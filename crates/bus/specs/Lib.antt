@@ -2,6 +2,7 @@ pub mod Access
 pub mod Fault
 pub mod Isolation
 pub mod Laws
+pub mod Made
 pub mod Meaning
 pub mod Memory
 pub mod Program

@@ -2,7 +2,7 @@
 ghost use Rattle.std.specs.Prelude.{◌≡◌};
 ghost use Rattle.bus.specs.Access.{size, width_of, is_write, misaligned};
 
-#[derive(Clone, Copy)]
+#[derive(Clone, Copy, Debug, PartialEq, Eq)]
 pub enum Width {
     Byte,
     Half,
@@ -23,7 +23,7 @@ impl Width {
 }
 
 // What the access is for. A fetch is always of a halfword, so it has no width of its own.
-#[derive(Clone, Copy)]
+#[derive(Clone, Copy, Debug, PartialEq, Eq)]
 pub enum Use {
     Fetch,
     Read(Width),
@@ -53,13 +53,13 @@ impl Use {
 }
 
 // With whose right the access is made.
-#[derive(Clone, Copy)]
+#[derive(Clone, Copy, Debug, PartialEq, Eq)]
 pub enum Right {
     Privileged,
     Unprivileged,
 }
 
-#[derive(Clone, Copy)]
+#[derive(Clone, Copy, Debug, PartialEq, Eq)]
 pub struct Access {
     pub usage: Use,
     pub right: Right,

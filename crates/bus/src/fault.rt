@@ -5,42 +5,30 @@ ghost use Rattle.bus.specs.Fault.{cause_number, raised, handed_up};
 use crate::access::Access;
 
 // Why an access is refused, and from Undefined on why the core refuses an instruction.
-#[derive(Clone, Copy)]
+#[derive(Clone, Copy, Debug, PartialEq, Eq)]
 pub enum Cause {
-    Unmapped,
-    ReadOnly,
-    WrongWidth,
-    Forbidden,
-    Misaligned,
-    Undefined,
-    Unpredictable,
-    Breakpoint,
-    NotThumb,
-    SupervisorCallTooLow,
-    BadReturn,
+    Unmapped = 1,
+    ReadOnly = 2,
+    WrongWidth = 3,
+    Forbidden = 4,
+    Misaligned = 5,
+    Undefined = 6,
+    Unpredictable = 7,
+    Breakpoint = 8,
+    NotThumb = 9,
+    SupervisorCallTooLow = 10,
+    BadReturn = 11,
 }
 
 impl Cause {
     pub fn number(self) -> u8
         ensures { result ≡ cause_number self }
     {
-        match self {
-            Cause::Unmapped => 1,
-            Cause::ReadOnly => 2,
-            Cause::WrongWidth => 3,
-            Cause::Forbidden => 4,
-            Cause::Misaligned => 5,
-            Cause::Undefined => 6,
-            Cause::Unpredictable => 7,
-            Cause::Breakpoint => 8,
-            Cause::NotThumb => 9,
-            Cause::SupervisorCallTooLow => 10,
-            Cause::BadReturn => 11,
-        }
+        self as u8
     }
 }
 
-#[derive(Clone, Copy)]
+#[derive(Clone, Copy, Debug, PartialEq, Eq)]
 pub struct Fault {
     pub cause: Cause,
     // the address of the refused access
@@ -69,10 +57,8 @@ impl Fault {
         ensures { result ≡ handed_up self }
     {
         Fault {
-            cause: self.cause,
-            address: self.address,
-            kind: self.kind,
             hops: self.hops.saturating_add(1),
+            ..self
         }
     }
 }

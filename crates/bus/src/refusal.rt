@@ -2,27 +2,22 @@
 ghost use Rattle.std.specs.Prelude.{◌≡◌};
 ghost use Rattle.bus.specs.Refusal.{refusal_number};
 
-#[derive(Clone, Copy)]
+#[derive(Clone, Copy, Debug, PartialEq, Eq)]
 pub enum Refusal {
     // an exception, a region or a panel word outside its range
-    OutOfRange,
+    OutOfRange = 12,
     // a rank above 3
-    RankTooHigh,
+    RankTooHigh = 13,
     // a length, base, limit, exponent or rights code that no part can have
-    BadSetting,
+    BadSetting = 14,
     // a step of a locked core
-    CoreLocked,
+    CoreLocked = 15,
 }
 
 impl Refusal {
     pub fn number(self) -> u8
         ensures { result ≡ refusal_number self }
     {
-        match self {
-            Refusal::OutOfRange => 12,
-            Refusal::RankTooHigh => 13,
-            Refusal::BadSetting => 14,
-            Refusal::CoreLocked => 15,
-        }
+        self as u8
     }
 }
