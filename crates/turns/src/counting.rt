@@ -4,7 +4,7 @@ ghost use Rattle.turns.specs.Counts.{none, counted, counted_all};
 
 use arch::Response;
 
-#[derive(Clone, Copy)]
+#[derive(Clone, Copy, Debug, Default, PartialEq, Eq)]
 pub struct Counts {
     // steps that were answered
     pub stepped: u64,
@@ -29,11 +29,7 @@ impl Counts {
 pub fn count(responses: &[Response]) -> Counts
     ensures { result ≡ counted_all none responses.now }
 {
-    let mut counts = Counts {
-        stepped: 0,
-        accepted: 0,
-        refused: 0,
-    };
+    let mut counts = Counts::default();
     for response in responses {
         counts.note(*response);
     }
