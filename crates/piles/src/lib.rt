@@ -17,7 +17,7 @@ mod tests {
         expected: Expected,
     }
 
-    fn row(usage: Use, right: Right, address: u32, value: u32, expected: Expected) -> Row {
+    fn row_of(usage: Use, right: Right, address: u32, value: u32, expected: Expected) -> Row {
         Row {
             access: Access {
                 usage,
@@ -30,15 +30,15 @@ mod tests {
     }
 
     fn fetch(right: Right, address: u32, expected: Expected) -> Row {
-        row(Use::Fetch, right, address, 0, expected)
+        row_of(Use::Fetch, right, address, 0, expected)
     }
 
     fn read(right: Right, width: Width, address: u32, expected: Expected) -> Row {
-        row(Use::Read(width), right, address, 0, expected)
+        row_of(Use::Read(width), right, address, 0, expected)
     }
 
     fn write(right: Right, width: Width, address: u32, value: u32, expected: Expected) -> Row {
-        row(Use::Write(width), right, address, value, expected)
+        row_of(Use::Write(width), right, address, value, expected)
     }
 
     fn try_rows<B: Bus>(bus: &mut B, rows: &[Row]) -> Result<(), Fail> {
