@@ -1,5 +1,6 @@
 use Rattle.std.proofs.Common.{◌≡◌, Ok, Err, sym, refl, ap, ◌∙◌}
-use Rattle.bus.specs.Program.{done, world_of}
+use Rattle.bus.specs.Made.{world}
+use Rattle.bus.specs.Program.{done}
 use Rattle.arch.specs.Step.{instruction, settle}
 use Rattle.arch.specs.declared.answers.Response.{Response}
 use Rattle.arch.specs.declared.answers.Response.TheVariants.{Stepped}
@@ -21,8 +22,8 @@ returns-in-Ok g c =
     let s = c.args.r.now in
     let t = c.instruction.new.r in
     let flow = c.in-Ok.flow in
-    let before = world_of bus.bytes bus.verdict c.args.bus.now in
-    let after = world_of bus.bytes bus.verdict c.instruction.new.bus in
+    let before = world bus c.args.bus.now in
+    let after = world bus c.instruction.new.bus in
     let made = c.in-Ok.ensures in
     let settled_as = settled_flow s t flow ∙ ap (λ a. (Stepped a, t)) (sym c.answer.ensures) in
     record {
@@ -35,8 +36,8 @@ returns-in-Err g c =
     let bus = g.B.Bus in
     let s = c.args.r.now in
     let f = c.in-Err.fault in
-    let before = world_of bus.bytes bus.verdict c.args.bus.now in
-    let after = world_of bus.bytes bus.verdict c.instruction.new.bus in
+    let before = world bus c.args.bus.now in
+    let after = world bus c.instruction.new.bus in
     let refused = c.in-Err.ensures in
     let settled_as = c.settle_fault.ensures ∙ ap (λ (t : Registers). settle t (Err f)) refused.kept in
     record {
