@@ -1,10 +1,10 @@
 // Taking up an exception.
-ghost use Rattle.std.specs.Prelude.{◌≡◌, None};
+ghost use Rattle.std.specs.Prelude.{◌≡◌, None, Ok};
 ghost use Rattle.bus.specs.Made.{Makes};
 ghost use Rattle.arch.specs.Accesses.{try_words};
 ghost use Rattle.arch.specs.Entry.{frame_of, frame_words as frame_words_of, return_value as return_value_of, entered, is_last, stack_frame as stack_frame_of, take_last as take_last_of, take_other as take_other_of, take_up as take_up_of};
 ghost use Rattle.arch.specs.Status.{frame_status};
-ghost use Rattle.arch.specs.declared.answers.Response.TheVariants.{Stepped};
+ghost use Rattle.arch.specs.declared.answers.Completed.TheVariants.{Stepped};
 ghost use Rattle.cpu.specs.Stacked.{first_refusal};
 
 use arch::{Answer, Registers};
@@ -96,7 +96,7 @@ fn enter(r: &mut Registers, number: u8, vector: u32)
 
 // NMI and HardFault have nothing in their place: a refused vector locks the core.
 fn take_last<B: Bus>(r: &mut Registers, bus: &mut B, number: u8) -> Answer
-    ensures { Makes B.Bus bus.old bus.new (take_last_of r.old number) (Stepped result, r.new) }
+    ensures { Makes B.Bus bus.old bus.new (take_last_of r.old number) (Ok (Stepped result), r.new) }
 {
     match bus.read(Width::Word, Right::Privileged, 4 * u32::from(number)) {
         Ok(vector) => {
@@ -112,7 +112,7 @@ fn take_last<B: Bus>(r: &mut Registers, bus: &mut B, number: u8) -> Answer
 
 // Another exception gives way to HardFault where its vector or a word of its frame is refused.
 fn take_other<B: Bus>(r: &mut Registers, bus: &mut B, number: u8, refused: Option<Fault>) -> Answer
-    ensures { Makes B.Bus bus.old bus.new (take_other_of r.old number refused) (Stepped result, r.new) }
+    ensures { Makes B.Bus bus.old bus.new (take_other_of r.old number refused) (Ok (Stepped result), r.new) }
 {
     if refused.is_some() {
         return take_last(r, bus, HARD_FAULT);
@@ -140,7 +140,7 @@ fn stack_frame<B: Bus>(r: &Registers, bus: &mut B) -> Option<Fault>
 }
 
 pub fn take_up<B: Bus>(r: &mut Registers, bus: &mut B, number: u8) -> Answer
-    ensures { Makes B.Bus bus.old bus.new (take_up_of r.old number) (Stepped result, r.new) }
+    ensures { Makes B.Bus bus.old bus.new (take_up_of r.old number) (Ok (Stepped result), r.new) }
 {
     let refused = stack_frame(r, bus);
     if is_last(number) {

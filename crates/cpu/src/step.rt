@@ -1,9 +1,9 @@
 // One step: an exception is taken up, or an instruction runs.
-ghost use Rattle.std.specs.Prelude.{◌≡◌, Err};
+ghost use Rattle.std.specs.Prelude.{◌≡◌, Err, Ok};
 ghost use Rattle.bus.specs.Made.{Makes};
 ghost use Rattle.bus.specs.Program.{bind, done};
 ghost use Rattle.arch.specs.Step.{execute as execute_of, perform_decoded, instruction as instruction_of, settle, step as step_of};
-ghost use Rattle.arch.specs.declared.answers.Response.TheVariants.{Stepped};
+ghost use Rattle.arch.specs.declared.answers.Completed.TheVariants.{Stepped};
 ghost use Rattle.exec.specs.Outcome.{Executes, outcome};
 ghost use Rattle.thumb.specs.Decoded.{decoded};
 ghost use Rattle.cpu.specs.Responses.{stepped, answer_of, cause_of};
@@ -91,7 +91,7 @@ fn instruction<B: Bus>(r: &mut Registers, bus: &mut B) -> Result<Flow, Fault>
 
 // A fault keeps the registers: HardFault is pending, or below priority 0 the core locks.
 fn settle_fault(r: &mut Registers, fault: Fault) -> Answer
-    ensures { (Stepped result, r.new) ≡ settle r.old (Err fault) }
+    ensures { (Ok (Stepped result), r.new) ≡ settle r.old (Err fault) }
 {
     if state::execution_priority(r) < 0 {
         r.locked = true;
@@ -111,7 +111,7 @@ fn answer(flow: Flow) -> Answer
 }
 
 fn run_instruction<B: Bus>(r: &mut Registers, bus: &mut B) -> Answer
-    ensures { Makes B.Bus bus.old bus.new (bind (instruction_of r.old) (λ y. done (settle r.old y))) (Stepped result, r.new) }
+    ensures { Makes B.Bus bus.old bus.new (bind (instruction_of r.old) (λ y. done (settle r.old y))) (Ok (Stepped result), r.new) }
 {
     match instruction(r, bus) {
         Ok(flow) => answer(flow),

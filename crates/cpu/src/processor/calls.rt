@@ -7,7 +7,7 @@ ghost use Rattle.cpu.specs.Responses.{stepped, accepted};
 
 use super::Core;
 use crate::step::step;
-use arch::{Answer, Call, Registers, Response};
+use arch::{Answer, Call, Completed, Registers, Response};
 use bus::{Bus, Refusal};
 
 // 16 to 47
@@ -27,15 +27,6 @@ fn rankable(number: u32) -> bool
     ensures { result ≡ is_rankable number }
 {
     number == 11 || number == 14 || number == 15 || external(number)
-}
-
-fn response(res: Result<(), Refusal>) -> Response
-    ensures { result ≡ accepted res }
-{
-    match res {
-        Ok(()) => Response::Accepted,
-        Err(refusal) => Response::Refused(refusal),
-    }
 }
 
 impl Core {
@@ -97,17 +88,16 @@ impl Core {
     }
 
     // Any of these.
+    #[tactic(auto, unfolding(arch::specs::Step::answer_to))]
     pub fn call<B: Bus>(&mut self, bus: &mut B, call: Call) -> Response
         ensures { Makes B.Bus bus.old bus.new (answer_to call self.old.registers) (result, self.new.registers) }
     {
         match call {
-            Call::Step => match self.step(bus) {
-                Ok(answer) => Response::Stepped(answer),
-                Err(refusal) => Response::Refused(refusal),
-            },
-            Call::Raise(number) => response(self.raise(number)),
-            Call::Arm(number, on) => response(self.arm(number, on)),
-            Call::Rank(number, rank) => response(self.rank(number, rank)),
+            Call::Step => return Ok(Completed::Stepped(self.step(bus)?)),
+            Call::Raise(number) => self.raise(number)?,
+            Call::Arm(number, on) => self.arm(number, on)?,
+            Call::Rank(number, rank) => self.rank(number, rank)?,
         }
+        Ok(Completed::Accepted)
     }
 }

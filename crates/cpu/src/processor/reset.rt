@@ -56,6 +56,7 @@ fn fresh(msp: u32, start: u32) -> Registers
     )
 }
 
+#[tactic(auto, unfolding(arch::specs::Step::reset))]
 fn boot<B: Bus>(bus: &mut B) -> Result<Registers, Fault>
     ensures made { Makes B.Bus bus.old bus.new reset_of result }
     ensures contents { B.Bus.bytes bus.new ≡ B.Bus.bytes bus.old }

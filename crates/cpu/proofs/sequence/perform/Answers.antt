@@ -1,7 +1,7 @@
 use Rattle.std.proofs.Common.{◌+◌, ◌<◌, Bool, cond, List, [], ◌∷◌, ◌++◌, vec_items, vec_len, vec_capacity, sym, refl, ap, ◌∙◌, subst, arith}
 use Rattle.bus.specs.Made.{world}
-use Rattle.arch.specs.declared.answers.Response.{Response}
 use Rattle.arch.proofs.Isolating.{isolation_stands}
+use Rattle.arch.specs.Answers.{Response}
 use Rattle.cpu.specs.Performed.{machine, start_of}
 use Rattle.cpu.proofs.Calling.{Underway, underway_none, underway_more, underway_all}
 use Rattle.cpu.proofs.sequence.perform.Goals as goal
