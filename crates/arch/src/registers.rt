@@ -18,7 +18,7 @@ pub struct Exceptions {
     pub ranks: [u8; 48],
 }
 
-#[derive(Clone, Copy)]
+#[derive(Clone, Copy, Debug, PartialEq, Eq)]
 pub struct Registers {
     // R0 to R12
     pub general: [u32; 13],
