@@ -1,11 +1,11 @@
 -- Fault spans keep the laws of a tally, and have the faults' addresses between them.
 use Rattle.std.specs.Prelude.{◌≡◌, ℕ, ◌≤◌, min, max, true, false, ◌⊎◌, List, [], ◌∷◌, Some, None, Option, nat_le, refl}
-use Rattle.std.proofs.Common.{inl, inr, sym, ap₂, subst, arith, leb-true, leb-false}
+use Rattle.std.proofs.Common.{inl, inr, sym, subst, arith, leb-true, leb-false}
 use Rattle.std.proofs.Math.Nat.{min-eq_left}
 use Rattle.std.proofs.ByRecursion.{All-weaker}
 use Rattle.arch.specs.declared.answers.Answer.{Answer}
 use Rattle.arch.specs.declared.answers.Answer.TheVariants.{Ran, Entered, Returned, Faulted, Locked}
-use Rattle.runs.specs.FaultSpan.{between, no_span, span_of, spanning_both, hull, fault_addresses, Among, Spanning, Spans}
+use Rattle.runs.specs.FaultSpan.{between, no_span, span_of, hull, fault_addresses, Among, Spanning, Spans}
 use Rattle.runs.specs.Tally.{Laws, Commuting, tally}
 use Rattle.runs.specs.declared.fault_span.FaultSpan.{FaultSpan}
 
