@@ -2,7 +2,7 @@
 ghost use Rattle.std.specs.Prelude.{◌≡◌};
 ghost use Rattle.turns.specs.Counts.{none, counted, counted_all};
 
-use arch::Response;
+use arch::{Completed, Response};
 
 #[derive(Clone, Copy, Debug, Default, PartialEq, Eq)]
 pub struct Counts {
@@ -19,9 +19,9 @@ impl Counts {
         ensures { self.new ≡ counted self.old response }
     {
         match response {
-            Response::Stepped(_) => self.stepped = self.stepped.saturating_add(1),
-            Response::Accepted => self.accepted = self.accepted.saturating_add(1),
-            Response::Refused(_) => self.refused = self.refused.saturating_add(1),
+            Ok(Completed::Stepped(_)) => self.stepped = self.stepped.saturating_add(1),
+            Ok(Completed::Accepted) => self.accepted = self.accepted.saturating_add(1),
+            Err(_) => self.refused = self.refused.saturating_add(1),
         }
     }
 }

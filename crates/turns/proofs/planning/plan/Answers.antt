@@ -8,8 +8,8 @@ pub loop-made-init : goal.loop-made-init
 loop-made-init c = record {
   within = omega arith;
   planned = c.in_ok-extend_from_slice.ensures.items
-  ∙ ap (λ calls. calls ++ opening) c.new-calls.ensures.items
-  ∙ ap (λ calls. opening ++ calls) (sym (no_steps c.args.tick (c.args.steps / 2)));
+      ∙ ap (λ calls. calls ++ opening) c.new-calls.ensures.items
+      ∙ ap (λ calls. opening ++ calls) (sym (no_steps c.args.tick (c.args.steps / 2)));
 }
 
 pub loop-made-preserved : goal.loop-made-preserved
@@ -20,7 +20,7 @@ loop-made-preserved c =
     record {
       within = omega arith;
       planned = one_more c.args.tick middle made _ _ _ c.loop-made.auto.made c.loop-made.invariant.planned c.step_with_due.ensures c.in_ok-extend_from_slice-2.ensures.items
-      ∙ ap (λ k. opening ++ first_steps c.args.tick middle k) now;
+          ∙ ap (λ k. opening ++ first_steps c.args.tick middle k) now;
     }
 
 -- there is no step, or the last was made
