@@ -1,10 +1,10 @@
 -- While one flat runs, its neighbour's RAM and code are shut.
-use Rattle.std.proofs.Common.{◌≡◌, ℕ, ◌/◌, ◌^◌, ◌<◌, Bool, true, false, ◌&&◌, eqb, List, [], ◌∷◌, length, drop, replicate, Some, refl, ap, ◌∙◌, inl, inr, arith, eq-eqb, ne_eqb, eqb-true}
+use Rattle.std.proofs.Common.{◌≡◌, ℕ, ◌/◌, ◌^◌, ◌<◌, Bool, true, false, ◌&&◌, eqb, List, [], ◌∷◌, length, drop, replicate, Some, Option, refl, ap, ◌∙◌, inl, inr, arith, eq-eqb, ne_eqb, eqb-true}
 use native.Mathlib.Nat.{zero-div}
 use Rattle.bus.specs.declared.access.Right.{Right}
 use Rattle.bus.specs.declared.access.Use.{Use}
 use Rattle.bus.specs.declared.access.Use.TheVariants.{Fetch, Read, Write}
-use Rattle.parts.specs.Region.{off_region, eighth, is_privileged, covers, permits_use}
+use Rattle.parts.specs.Region.{off_region, eighth, is_privileged, region_covers, permits_use}
 use Rattle.parts.specs.RegionCheck.{covered_by, deciding, passes_by, passes}
 use Rattle.parts.specs.declared.region.Region.{Region}
 use Rattle.parts.specs.declared.region.Rights.TheVariants.{Privileged}
@@ -14,10 +14,10 @@ use Rattle.memory.specs.declared.flats.Flat.{Flat}
 use Rattle.memory.specs.declared.flats.Flat.TheVariants.{One, Two}
 
 -- all regions, where a flat runs and the last two are off
-abbrev eight : Flat → List Region
+abbrev eight : Flat → List (Option Region)
 eight = handed_to (replicate 8 off_region)
 
-anew : (flat : Flat) (regions : List Region) → Spare regions → handed_to regions flat ≡ eight flat
+anew : (flat : Flat) (regions : List (Option Region)) → Spare regions → handed_to regions flat ≡ eight flat
 anew One (a ∷ b ∷ c ∷ d ∷ e ∷ f ∷ rest) spare = ap (λ end. handed_to (a ∷ b ∷ c ∷ d ∷ e ∷ f ∷ end) One) spare
 anew Two (a ∷ b ∷ c ∷ d ∷ e ∷ f ∷ rest) spare = ap (λ end. handed_to (a ∷ b ∷ c ∷ d ∷ e ∷ f ∷ end) Two) spare
 anew flat [] spare = absurd (omega (arith, ap length spare))
@@ -33,7 +33,7 @@ and_true false = refl
 
 -- a region of 1024 bytes for the supervisor only
 abbrev kilobyte : ℕ → Bool → Region
-kilobyte base closed = record { on = true; base = base; exponent = 10; rights = Privileged; no_fetch = closed; sub_marks = 0 }
+kilobyte base closed = record { base = base; exponent = 10; rights = Privileged; no_fetch = closed; sub_marks = 0 }
 
 denied : (usage : Use) (right : Right) (base : ℕ) (closed : Bool) → is_privileged right ≡ false → permits_use usage (kilobyte base closed) right ≡ false
 denied Fetch right base closed user = rw user
@@ -41,17 +41,17 @@ denied (Read width) right base closed user = user
 denied (Write width) right base closed user = user
 
 -- what a region covers does not hang on its rights, so these serve for each region of its size
-kilobyte_covers : (base x : ℕ) → covers (kilobyte base true) x ≡ eqb (x / 1024) (base / 1024)
+kilobyte_covers : (base x : ℕ) → region_covers (kilobyte base true) x ≡ eqb (x / 1024) (base / 1024)
 kilobyte_covers base x = rw (zero-div (2 ^ eighth 10 x)) (and_true (eqb (x / 1024) (base / 1024)))
 
-hit : (base x : ℕ) → x / 1024 ≡ base / 1024 → covers (kilobyte base true) x ≡ true
+hit : (base x : ℕ) → x / 1024 ≡ base / 1024 → region_covers (kilobyte base true) x ≡ true
 hit base x same = kilobyte_covers base x ∙ eq-eqb _ _ same
 
-miss : (base x : ℕ) → (x / 1024 ≡ base / 1024 → ⊥) → covers (kilobyte base true) x ≡ false
+miss : (base x : ℕ) → (x / 1024 ≡ base / 1024 → ⊥) → region_covers (kilobyte base true) x ≡ false
 miss base x other = kilobyte_covers base x ∙ ne_eqb _ _ other
 
 -- the panel lies above all RAM and code
-panel_miss : (marks x : ℕ) → x / 1024 < 1048576 → covers (record { on = true; base = 0x4000_0000; exponent = 8; rights = Privileged; no_fetch = true; sub_marks = marks }) x ≡ false
+panel_miss : (marks x : ℕ) → x / 1024 < 1048576 → region_covers (record { base = 0x4000_0000; exponent = 8; rights = Privileged; no_fetch = true; sub_marks = marks }) x ≡ false
 panel_miss marks x low = rw (ne_eqb (x / 256) 4194304 (λ e. omega arith))
 
 -- which region decides in the neighbour's RAM and code
@@ -97,9 +97,9 @@ shut One background a user (inr there) = ap (λ o. passes_by o (eight One) backg
 shut Two background a user (inl there) = ap (λ o. passes_by o (eight Two) background a) (ram_of_one a.address (eqb-true _ _ there)) ∙ denied a.usage a.right 0x2000_0400 true user
 shut Two background a user (inr there) = ap (λ o. passes_by o (eight Two) background a) (code_of_one a.address (eqb-true _ _ there)) ∙ denied a.usage a.right 0x400 false user
 
-pub still_spare : (flat : Flat) (regions : List Region) → Spare regions → Spare (handed_to regions flat)
+pub still_spare : (flat : Flat) (regions : List (Option Region)) → Spare regions → Spare (handed_to regions flat)
 still_spare One regions spare = ap (drop 6) (anew One regions spare)
 still_spare Two regions spare = ap (drop 6) (anew Two regions spare)
 
-pub neighbour_shut : (flat : Flat) (regions : List Region) → Spare regions → Shut (neighbour flat) (handed_to regions flat)
+pub neighbour_shut : (flat : Flat) (regions : List (Option Region)) → Spare regions → Shut (neighbour flat) (handed_to regions flat)
 neighbour_shut flat regions spare background a user there = ap (λ all. passes all background a) (anew flat regions spare) ∙ shut flat background a user there

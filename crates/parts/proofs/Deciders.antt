@@ -1,6 +1,6 @@
 -- The greatest number that passes a test.
 use Rattle.std.proofs.Common.{◌≡◌, ℕ, zero, suc, ◌-◌, ◌<◌, Bool, true, false, cond, ◌⊎◌, Some, None, Option, refl, ap, ◌∙◌, inl, inr, arith}
-use Rattle.std.proofs.lemmas.Bool.{cases_eq}
+use Rattle.std.proofs.lemmas.Bool.{both_ways, cases_eq}
 use Rattle.parts.specs.RegionCheck.{greatest, Decides}
 
 -- one number more, at the top
@@ -43,3 +43,17 @@ pub greatest_of_none : (test : ℕ → Bool) (n : ℕ) → ((k : ℕ) → test k
 unfolding greatest
 greatest_of_none test zero none = refl
 greatest_of_none test (suc n) none = rw (none n) (greatest_of_none test n none)
+
+-- and it is the only one that does
+pub decides_greatest : (test : ℕ → Bool) (n : ℕ) (o : Option ℕ) → Decides test n o → o ≡ greatest test n
+decides_greatest test n o h = same o (greatest test n) h (greatest_decides test n)
+  where
+    same : (o p : Option ℕ) → Decides test n o → Decides test n p → o ≡ p
+    same None None h k = refl
+    same None (Some j) h k = absurd (both_ways (test j) (h j k.0) k.1)
+    same (Some i) None h k = absurd (both_ways (test i) (k i h.0) h.1)
+    same (Some i) (Some j) h k = at (cases_eq i j)
+      where
+        at : (i ≡ j) ⊎ (i ≡ j → ⊥) → Some i ≡ Some j
+        at (inl e) = ap Some e
+        at (inr ne) = absurd (grind (arith, both_ways (test j), both_ways (test i)))

@@ -1,5 +1,5 @@
 -- One region: the addresses it covers, and what it permits there.
-use Rattle.std.specs.Prelude.{ℕ, ◌-◌, ◌/◌, ◌%◌, ◌^◌, Bool, true, false, cond, not, ◌&&◌, Ok, Err, Result, ◌==◌, nat_le}
+use Rattle.std.specs.Prelude.{ℕ, ◌-◌, ◌/◌, ◌%◌, ◌^◌, Bool, true, false, cond, not, ◌&&◌, Some, None, Ok, Err, Option, Result, ◌==◌, nat_le}
 use Rattle.bus.specs.declared.access.Access.{Access}
 use Rattle.bus.specs.declared.access.Right.{Right}
 use Rattle.bus.specs.declared.access.Right.TheVariants.{Privileged as privileged, Unprivileged as unprivileged}
@@ -51,10 +51,10 @@ exponent_fits e = nat_le 8 e && nat_le e 32
 abbrev pub eighth : ℕ → ℕ → ℕ
 eighth e x = x / 2 ^ (e - 3) % 8
 
--- on, x and the base agree in all bits from bit e up, and the sub mark of x's eighth is clear
-abbrev pub covers : Region → ℕ → Bool
-covers r x =
-    r.on && exponent_fits r.exponent
+-- x and the base agree in all bits from bit e up, and the sub mark of x's eighth is clear
+abbrev pub region_covers : Region → ℕ → Bool
+region_covers r x =
+    exponent_fits r.exponent
     && x / 2 ^ r.exponent == r.base / 2 ^ r.exponent
     && r.sub_marks / 2 ^ eighth r.exponent x % 2 == 0
 
@@ -64,19 +64,28 @@ permits_use Fetch r right = reads r.rights right && not r.no_fetch
 permits_use (Read width) r right = reads r.rights right
 permits_use (Write width) r right = writes r.rights right
 
-abbrev pub permits : Region → Access → Bool
-permits r a = permits_use a.usage r a.right
+abbrev pub region_permits : Region → Access → Bool
+region_permits r a = permits_use a.usage r a.right
 
-abbrev pub off_region : Region
-off_region = record { on = false; base = 0; exponent = 0; rights = Nothing; no_fetch = false; sub_marks = 0 }
+-- a region that is off covers nothing and permits nothing
+abbrev pub off_region : Option Region
+off_region = None
 
-abbrev pub with_rights : Result Rights Refusal → Setting → Result Region Refusal
+abbrev pub covers : Option Region → ℕ → Bool
+covers (Some r) x = region_covers r x
+covers None x = false
+
+abbrev pub permits : Option Region → Access → Bool
+permits (Some r) a = region_permits r a
+permits None a = false
+
+abbrev pub with_rights : Result Rights Refusal → Setting → Result (Option Region) Refusal
 with_rights (Err refusal) s = Err refusal
 with_rights (Ok rights) s =
     cond (exponent_fits s.exponent && s.base % 2 ^ s.exponent == 0)
-    (Ok (record { on = s.on; base = s.base; exponent = s.exponent; rights = rights; no_fetch = s.no_fetch; sub_marks = s.sub_marks }))
+    (Ok (cond s.on (Some (record { base = s.base; exponent = s.exponent; rights = rights; no_fetch = s.no_fetch; sub_marks = s.sub_marks })) None))
     (Err BadSetting)
 
 -- a setting with a code that means something, an exponent that fits, and a base that is a multiple of the region's size
-abbrev pub region_of : Setting → Result Region Refusal
+abbrev pub region_of : Setting → Result (Option Region) Refusal
 region_of s = with_rights (rights_of s.code) s

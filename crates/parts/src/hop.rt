@@ -7,8 +7,5 @@ use bus::Fault;
 pub fn hand_up(answer: Result<u32, Fault>) -> Result<u32, Fault>
     ensures { result ≡ handed_up_answer answer }
 {
-    match answer {
-        Ok(value) => Ok(value),
-        Err(fault) => Err(fault.hand_up()),
-    }
+    answer.map_err(Fault::hand_up)
 }

@@ -30,13 +30,20 @@ impl Panel {
         })
     }
 
+    // All sixteen, in order.
+    pub fn words(&self) -> &[u32; 16]
+        ensures { result.now ≡ self.now.words }
+    {
+        &self.words
+    }
+
     pub fn word(&self, index: u32) -> Result<u32, Refusal>
         ensures { result ≡ (if nat_lt index 16 then Ok (slice_index self.now.words index) else Err OutOfRange) }
     {
-        if index > 15 {
-            return Err(Refusal::OutOfRange);
-        }
-        Ok(self.value(index as usize))
+        self.words
+            .get(index as usize)
+            .copied()
+            .ok_or(Refusal::OutOfRange)
     }
 
     pub fn set_word(&mut self, index: u32, value: u32) -> Result<(), Refusal>
@@ -51,13 +58,6 @@ impl Panel {
         Ok(())
     }
 
-    fn value(&self, index: usize) -> u32
-        requires { index < 16 }
-        ensures { result ≡ slice_index self.now.words index }
-    {
-        self.words[index]
-    }
-
     // The index of the word that an allowed access is for, or the fault of a refused one.
     fn admit(&self, access: Access) -> Result<usize, Fault>
         ensures { result ≡ answer (panel_verdict self.now access) (access.address % 64 / 4) }
@@ -70,8 +70,7 @@ impl Panel {
         }
         match access.usage.width() {
             Width::Word => Ok((access.address % PANEL_SIZE / 4) as usize),
-            Width::Half => Err(Fault::raise(Cause::WrongWidth, access, PANEL_KIND)),
-            Width::Byte => Err(Fault::raise(Cause::WrongWidth, access, PANEL_KIND)),
+            Width::Half | Width::Byte => Err(Fault::raise(Cause::WrongWidth, access, PANEL_KIND)),
         }
     }
 }
@@ -97,6 +96,6 @@ impl Bus for Panel {
             self.words[at] = value;
             return Ok(0);
         }
-        Ok(self.value(at))
+        Ok(self.words[at])
     }
 }

@@ -1,11 +1,11 @@
 // One region: the addresses it covers, and what it permits there.
 ghost use Rattle.std.specs.Prelude.{◌≡◌};
-ghost use Rattle.parts.specs.Region.{rights_of, is_privileged, reads, writes, covers, permits, region_of, off_region};
+ghost use Rattle.parts.specs.Region.{rights_of, is_privileged, reads, writes, region_covers, region_permits, region_of};
 
 use bus::{Access, Refusal, Right, Use};
 
 // Who may read and who may write.
-#[derive(Clone, Copy)]
+#[derive(Clone, Copy, Debug, PartialEq, Eq)]
 pub enum Rights {
     // nobody anything
     Nothing,
@@ -22,22 +22,6 @@ pub enum Rights {
 }
 
 impl Rights {
-    // The rights of a code: 0 to 3 and 5 to 7 mean something.
-    pub fn from_code(code: u8) -> Result<Rights, Refusal>
-        ensures { result ≡ rights_of code }
-    {
-        match code {
-            0 => Ok(Rights::Nothing),
-            1 => Ok(Rights::Privileged),
-            2 => Ok(Rights::PrivilegedWrites),
-            3 => Ok(Rights::Everything),
-            5 => Ok(Rights::PrivilegedReads),
-            6 => Ok(Rights::Reads),
-            7 => Ok(Rights::Reads),
-            _ => Err(Refusal::BadSetting),
-        }
-    }
-
     fn reads(self, right: Right) -> bool
         ensures { result ≡ reads self right }
     {
@@ -65,17 +49,33 @@ impl Rights {
     }
 }
 
-pub fn privileged(right: Right) -> bool
-    ensures { result ≡ is_privileged right }
-{
-    match right {
-        Right::Privileged => true,
-        Right::Unprivileged => false,
+impl TryFrom<u8> for Rights {
+    type Error = Refusal;
+
+    ghost try_from_gives = { λ code result. result ≡ rights_of code };
+
+    // The rights of a code: 0 to 3 and 5 to 7 mean something.
+    fn try_from(code: u8) -> Result<Rights, Refusal> {
+        match code {
+            0 => Ok(Rights::Nothing),
+            1 => Ok(Rights::Privileged),
+            2 => Ok(Rights::PrivilegedWrites),
+            3 => Ok(Rights::Everything),
+            5 => Ok(Rights::PrivilegedReads),
+            6 | 7 => Ok(Rights::Reads),
+            _ => Err(Refusal::BadSetting),
+        }
     }
 }
 
+pub fn privileged(right: Right) -> bool
+    ensures { result ≡ is_privileged right }
+{
+    right == Right::Privileged
+}
+
 // A region as the host asks for it.
-#[derive(Clone, Copy)]
+#[derive(Clone, Copy, Debug, PartialEq, Eq)]
 pub struct Setting {
     pub on: bool,
     pub base: u32,
@@ -88,10 +88,9 @@ pub struct Setting {
     pub sub_marks: u8,
 }
 
-// A region that was checked.
-#[derive(Clone, Copy)]
+// A region that is on.
+#[derive(Clone, Copy, Debug, PartialEq, Eq)]
 pub struct Region {
-    on: bool,
     base: u32,
     exponent: u8,
     rights: Rights,
@@ -100,44 +99,31 @@ pub struct Region {
 }
 
 impl Region {
-    // A region that covers nothing.
-    pub fn off() -> Region
-        ensures { result ≡ off_region }
-    {
-        Region {
-            on: false,
-            base: 0,
-            exponent: 0,
-            rights: Rights::Nothing,
-            no_fetch: false,
-            sub_marks: 0,
-        }
-    }
-
-    pub fn new(setting: Setting) -> Result<Region, Refusal>
+    // The region of a setting, where it is on. What no region can have is refused, on or off.
+    pub fn of(setting: Setting) -> Result<Option<Region>, Refusal>
         ensures { result ≡ region_of setting }
     {
-        let rights = Rights::from_code(setting.code)?;
+        let rights = Rights::try_from(setting.code)?;
         if setting.exponent < 8 || setting.exponent > 32 {
             return Err(Refusal::BadSetting);
         }
         if u64::from(setting.base) % (1u64 << setting.exponent) != 0 {
             return Err(Refusal::BadSetting);
         }
-        Ok(Region {
-            on: setting.on,
+        let region = Region {
             base: setting.base,
             exponent: setting.exponent,
             rights,
             no_fetch: setting.no_fetch,
             sub_marks: setting.sub_marks,
-        })
+        };
+        Ok(setting.on.then_some(region))
     }
 
     pub fn covers(&self, address: u32) -> bool
-        ensures { result ≡ covers self.now address }
+        ensures { result ≡ region_covers self.now address }
     {
-        if !self.on || self.exponent < 8 || self.exponent > 32 {
+        if self.exponent < 8 || self.exponent > 32 {
             return false;
         }
         let address = u64::from(address);
@@ -148,7 +134,7 @@ impl Region {
 
     // Whether the region, where it decides, lets the access pass.
     pub fn permits(&self, access: Access) -> bool
-        ensures { result ≡ permits self.now access }
+        ensures { result ≡ region_permits self.now access }
     {
         match access.usage {
             Use::Fetch => self.rights.reads(access.right) && !self.no_fetch,

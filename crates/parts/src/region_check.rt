@@ -1,5 +1,5 @@
 // A region check: one bus, and eight regions that say who may use what of it.
-ghost use Rattle.std.specs.Prelude.{◌≡◌, ℕ, Bool, false, ◌&&◌, List, length, replicate, ◌≢◌, slice_index_or};
+ghost use Rattle.std.specs.Prelude.{◌≡◌, ℕ, Bool, false, ◌&&◌, List, length, replicate, Option, ◌≢◌, slice_index_or};
 ghost use Rattle.bus.specs.declared.access.Access.{Access};
 ghost use Rattle.parts.specs.declared.region.Region.{Region};
 ghost use Rattle.parts.specs.Region.{off_region, is_privileged};
@@ -11,29 +11,25 @@ use bus::{Access, Bus, Cause, Fault, Refusal};
 
 const REGION_CHECK_KIND: u8 = 4;
 
+// Eight regions; there is nothing where one is off.
 #[derive(Clone, Copy)]
 pub struct Table {
-    regions: [Region; 8],
+    regions: [Option<Region>; 8],
 }
 
 // The number of the region that decides on an address: the highest that covers it.
-fn deciding_region(regions: &[Region], address: u32) -> Option<usize>
+fn deciding_region(regions: &[Option<Region>], address: u32) -> Option<usize>
     ensures value { result ≡ deciding regions.now address }
     ensures highest { Decides (covered_by regions.now address) (length regions.now) result }
 {
-    for number in (0..regions.len()).rev() {
-        if regions[number].covers(address) {
-            return Some(number);
-        }
-    }
-    None
+    regions.iter().rposition(|region| region.is_some_and(|region| region.covers(address)))
 }
 
-fn passes_regions(regions: &[Region], background: bool, access: Access) -> bool
+fn passes_regions(regions: &[Option<Region>], background: bool, access: Access) -> bool
     ensures { result ≡ passes regions.now background access }
 {
     match deciding_region(regions, access.address) {
-        Some(number) => regions[number].permits(access),
+        Some(number) => regions[number].is_some_and(|region| region.permits(access)),
         None => background && region::privileged(access.right),
     }
 }
@@ -52,9 +48,7 @@ impl<B: Bus> RegionCheck<B> {
     {
         RegionCheck {
             below,
-            table: Table {
-                regions: [Region::off(); 8],
-            },
+            table: Table { regions: [None; 8] },
             background: false,
         }
     }
@@ -69,7 +63,7 @@ impl<B: Bus> RegionCheck<B> {
         if number > 7 {
             return Err(Refusal::OutOfRange);
         }
-        let region = Region::new(setting)?;
+        let region = Region::of(setting)?;
         self.table.regions[number as usize] = region;
         Ok(())
     }
@@ -108,7 +102,7 @@ impl<B: Bus> Bus for RegionCheck<B> {
 
     ghost verdict = { λ s. check_verdict s.table.regions s.background (B.Bus.verdict s.below) };
 
-    ghost Settings = { List Region × (Bool × B.Bus.Settings) };
+    ghost Settings = { List (Option Region) × (Bool × B.Bus.Settings) };
 
     ghost settings = { λ s. (s.table.regions, (s.background, B.Bus.settings s.below)) };
 

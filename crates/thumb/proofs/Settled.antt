@@ -4,7 +4,7 @@ use mathlib.Core.Path.{fun_ext}
 use Prim.Native.String.{String}
 use Rattle.thumb.specs.Diagram.{Bits, bits_of, letter, agrees, spelled}
 use Rattle.thumb.specs.Rows.{Row, Answer, narrow_rows, wide_rows}
-use Rattle.thumb.specs.Decoded.{answer, decoded_narrow, decoded_wide, fits, lookup, proper}
+use Rattle.thumb.specs.Decoded.{IsControl, answer, decoded_narrow, decoded_wide, fits, lookup, proper}
 use Rattle.thumb.specs.declared.instructions.Refusal.TheVariants.{Undefined, Unpredictable}
 use Rattle.thumb.proofs.Known.{Fact, above, slice, Holds, sight, sees}
 use Rattle.thumb.proofs.Pieces.{joined, joins, pieces}
@@ -43,5 +43,8 @@ by_prefix x k p h e = settles narrow_rows (above k p ∷ []) x (h, tt) e
 abbrev pub control : ℕ → ℕ → List Fact
 control k p = above k p ∷ slice 14 2 2 ∷ slice 12 1 0 ∷ []
 
-pub by_control : (x k p : ℕ) → Holds x (control k p) → {r : Answer} → r ≡ settled wide_rows (control k p) x → r ≡ decoded_wide x
-by_control x k p h e = settles wide_rows (control k p) x h e
+pub held : (x k p : ℕ) → IsControl x k p → Holds x (control k p)
+held x k p h = (h.prefix, (h.high, (h.low, tt)))
+
+pub by_control : (x k p : ℕ) → IsControl x k p → {r : Answer} → r ≡ settled wide_rows (control k p) x → r ≡ decoded_wide x
+by_control x k p h e = settles wide_rows (control k p) x (held x k p h) e

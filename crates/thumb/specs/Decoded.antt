@@ -1,5 +1,5 @@
 -- What an encoding means, by the table of its diagrams.
-use Rattle.std.specs.Prelude.{ℕ, ◌+◌, ◌*◌, ◌/◌, ◌^◌, Bool, cond, ◌||◌, List, [], ◌∷◌, Err, ◌==◌}
+use Rattle.std.specs.Prelude.{◌≡◌, ℕ, ◌+◌, ◌*◌, ◌/◌, ◌%◌, ◌^◌, Bool, cond, ◌||◌, List, [], ◌∷◌, Err, ◌==◌}
 use Rattle.thumb.specs.Diagram.{Bits, bits_of, letter, agrees, spelled}
 use Rattle.thumb.specs.Rows.{Answer, Row, narrow_rows, wide_rows}
 use Rattle.thumb.specs.declared.instructions.Refusal.TheVariants.{Undefined, Unpredictable}
@@ -29,6 +29,12 @@ decoded_narrow x = lookup narrow_rows (bits_of x)
 
 abbrev pub decoded_wide : ℕ → Answer
 decoded_wide x = lookup wide_rows (bits_of x)
+
+-- x is of miscellaneous control and no BL, and p are its bits from `from` up
+pub record IsControl (x from p : ℕ) : Type 0 where
+  pub prefix : x / 2 ^ from ≡ p
+  pub high : x / 2 ^ 14 % 2 ^ 2 ≡ 2
+  pub low : x / 2 ^ 12 % 2 ^ 1 ≡ 0
 
 abbrev pub decoded : ℕ → ℕ → Answer
 decoded first second = cond (wide_first first) (decoded_wide (first * 2 ^ 16 + second)) (decoded_narrow first)

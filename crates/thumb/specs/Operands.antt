@@ -1,6 +1,9 @@
 -- What the instruction pages make of the fields of an encoding.
-use Rattle.std.specs.Prelude.{ℕ, ◌+◌, ◌*◌, ◌^◌, Bool, cond, List, [], ◌∷◌, Some, None, Option, ◌==◌}
+use Rattle.std.specs.Prelude.{ℕ, ◌+◌, ◌*◌, ◌^◌, Bool, cond, List, [], ◌∷◌, Some, None, Option, Result, ◌==◌}
 use Rattle.word.specs.Extend.{sign_extend}
+use Rattle.std.specs.Option.{ok_or}
+use Rattle.thumb.specs.declared.instructions.Refusal.{Refusal}
+use Rattle.thumb.specs.declared.instructions.Refusal.TheVariants.{Unpredictable}
 use Rattle.thumb.specs.declared.instructions.SpecialRegister.{SpecialRegister}
 use Rattle.thumb.specs.declared.instructions.SpecialRegister.TheVariants.{Apsr, Iapsr, Eapsr, Xpsr, Ipsr, Epsr, Iepsr, Msp, Psp, Primask, Control}
 
@@ -30,3 +33,7 @@ special_registers =
 abbrev pub listed : {A : Type 0} → List (ℕ × A) → ℕ → Option A
 listed [] n = None
 listed (e ∷ es) n = cond (n == e.0) (Some e.1) (listed es n)
+
+-- the special register of a SYSm value, or why there is none
+abbrev pub special_register_of : ℕ → Result SpecialRegister Refusal
+special_register_of sysm = ok_or (listed special_registers sysm) Unpredictable

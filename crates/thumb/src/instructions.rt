@@ -2,12 +2,14 @@
 //!
 //! A register is its number: R0 to R12, 13 for SP, 14 for LR, 15 for PC. An offset is in bytes, and modulo 2^32.
 ghost use Rattle.std.specs.Prelude.{◌≡◌};
+ghost use Rattle.thumb.specs.Operands.{special_register_of};
 ghost use Rattle.thumb.specs.Refusals.{refusal_number};
 
+use thiserror::Error;
 use word::Condition;
 
 /// An instruction, by group.
-#[derive(Clone, Copy)]
+#[derive(Clone, Copy, Debug, PartialEq, Eq)]
 pub enum Instruction {
     Basic(Basic),
     /// `dn = op(dn, m)` on low registers, with the flags; TST, CMP and CMN set the flags only.
@@ -35,7 +37,7 @@ pub enum Instruction {
 }
 
 /// Shift (immediate), add, subtract, move and compare, on low registers; all set the flags.
-#[derive(Clone, Copy)]
+#[derive(Clone, Copy, Debug, PartialEq, Eq)]
 pub enum Basic {
     /// By 1 to 31.
     Lsl { d: u8, m: u8, by: u32 },
@@ -60,7 +62,7 @@ pub enum Basic {
 }
 
 /// Data processing on two low registers, in the order of the opcodes.
-#[derive(Clone, Copy)]
+#[derive(Clone, Copy, Debug, PartialEq, Eq)]
 pub enum Operation {
     And,
     Eor,
@@ -81,7 +83,7 @@ pub enum Operation {
 }
 
 /// Sums, a comparison and a move of any registers, and sums with SP and PC; only CMP sets the flags.
-#[derive(Clone, Copy)]
+#[derive(Clone, Copy, Debug, PartialEq, Eq)]
 pub enum Special {
     /// ADD (register), encoding T2, and ADD (SP plus register).
     Add { dn: u8, m: u8 },
@@ -99,7 +101,7 @@ pub enum Special {
 }
 
 /// Extensions and reversals.
-#[derive(Clone, Copy)]
+#[derive(Clone, Copy, Debug, PartialEq, Eq)]
 pub enum Unary {
     Sxth,
     Sxtb,
@@ -111,7 +113,7 @@ pub enum Unary {
 }
 
 /// Loads and stores of one register, in the order of the opcodes with a register offset.
-#[derive(Clone, Copy)]
+#[derive(Clone, Copy, Debug, PartialEq, Eq)]
 pub enum Transfer {
     Str,
     Strh,
@@ -124,7 +126,7 @@ pub enum Transfer {
 }
 
 /// Where a load or a store goes.
-#[derive(Clone, Copy)]
+#[derive(Clone, Copy, Debug, PartialEq, Eq)]
 pub enum Address {
     /// `n + m`
     Indexed { n: u8, m: u8 },
@@ -135,7 +137,7 @@ pub enum Address {
 }
 
 /// Loads and stores of several registers; bit `i` of a list stands for register `i`.
-#[derive(Clone, Copy)]
+#[derive(Clone, Copy, Debug, PartialEq, Eq)]
 pub enum Multiple {
     Stm { n: u8, list: u8 },
     Ldm { n: u8, list: u8 },
@@ -144,7 +146,7 @@ pub enum Multiple {
 }
 
 /// Branches; an offset counts from the PC, which is the instruction's address plus 4.
-#[derive(Clone, Copy)]
+#[derive(Clone, Copy, Debug, PartialEq, Eq)]
 pub enum Branch {
     B { offset: u32 },
     If { condition: Condition, offset: u32 },
@@ -154,7 +156,7 @@ pub enum Branch {
 }
 
 /// Calls to the system, hints, barriers and special registers.
-#[derive(Clone, Copy)]
+#[derive(Clone, Copy, Debug, PartialEq, Eq)]
 pub enum System {
     Svc { imm: u32 },
     Bkpt { imm: u32 },
@@ -174,7 +176,7 @@ pub enum System {
 }
 
 /// What MRS reads and MSR writes.
-#[derive(Clone, Copy)]
+#[derive(Clone, Copy, Debug, PartialEq, Eq)]
 pub enum SpecialRegister {
     Apsr,
     Iapsr,
@@ -189,11 +191,37 @@ pub enum SpecialRegister {
     Control,
 }
 
+/// Of a SYSm value; the other values are reserved.
+impl TryFrom<u32> for SpecialRegister {
+    type Error = Refusal;
+
+    ghost try_from_gives = { λ sysm r. r ≡ special_register_of sysm };
+
+    fn try_from(sysm: u32) -> Result<SpecialRegister, Refusal> {
+        match sysm {
+            0 => Ok(SpecialRegister::Apsr),
+            1 => Ok(SpecialRegister::Iapsr),
+            2 => Ok(SpecialRegister::Eapsr),
+            3 => Ok(SpecialRegister::Xpsr),
+            5 => Ok(SpecialRegister::Ipsr),
+            6 => Ok(SpecialRegister::Epsr),
+            7 => Ok(SpecialRegister::Iepsr),
+            8 => Ok(SpecialRegister::Msp),
+            9 => Ok(SpecialRegister::Psp),
+            16 => Ok(SpecialRegister::Primask),
+            20 => Ok(SpecialRegister::Control),
+            _ => Err(Refusal::Unpredictable),
+        }
+    }
+}
+
 /// Why an encoding is no instruction.
-#[derive(Clone, Copy)]
+#[derive(Clone, Copy, Debug, PartialEq, Eq, Error)]
 pub enum Refusal {
-    Undefined,
-    Unpredictable,
+    #[error("undefined")]
+    Undefined = 6,
+    #[error("unpredictable")]
+    Unpredictable = 7,
 }
 
 impl Refusal {
@@ -201,9 +229,6 @@ impl Refusal {
     pub fn number(self) -> u32
         ensures { result ≡ refusal_number self }
     {
-        match self {
-            Refusal::Undefined => 6,
-            Refusal::Unpredictable => 7,
-        }
+        self as u32
     }
 }

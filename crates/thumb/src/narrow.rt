@@ -29,32 +29,26 @@ pub(crate) fn narrow(x: u32) -> Result<Instruction, Refusal>
     }
 }
 
+/// A field of at most eight bits: a register or a list of registers.
+fn byte(x: u32, from: u32, count: u32) -> u8
+    requires { count ≤ 8 }
+    ensures { result ≡ x / 2 ^ from % 2 ^ count }
+{
+    field(x, from, count) as u8
+}
+
 /// The low register whose number begins at bit `from`.
 fn low(x: u32, from: u32) -> u8
     ensures { result ≡ x / 2 ^ from % 2 ^ 3 }
 {
-    field(x, from, 3) as u8
+    byte(x, from, 3)
 }
 
 /// The register of which bit 7 is the highest bit and bits 2 to 0 are the others.
 fn split(x: u32) -> u8
     ensures { result ≡ x / 2 ^ 7 % 2 * 2 ^ 3 + x / 2 ^ 0 % 2 ^ 3 }
 {
-    (field(x, 7, 1) * 8 + field(x, 0, 3)) as u8
-}
-
-/// The register in bits 6 to 3.
-fn high(x: u32) -> u8
-    ensures { result ≡ x / 2 ^ 3 % 2 ^ 4 }
-{
-    field(x, 3, 4) as u8
-}
-
-/// The low byte as a list of registers.
-fn list(x: u32) -> u8
-    ensures { result ≡ x / 2 ^ 0 % 2 ^ 8 }
-{
-    field(x, 0, 8) as u8
+    byte(x, 7, 1) * 8 + low(x, 0)
 }
 
 /// DecodeImmShift for LSR and ASR.
@@ -151,7 +145,7 @@ fn special(x: u32) -> Result<Instruction, Refusal>
     ensures { result ≡ decoded_narrow x }
 {
     let n = split(x);
-    let m = high(x);
+    let m = byte(x, 3, 4);
     match x >> 8 {
         0b010001_00 => if n == 15 && m == 15 {
             Err(Refusal::Unpredictable)
@@ -173,7 +167,7 @@ fn exchange(x: u32) -> Result<Instruction, Refusal>
     requires { x / 2 ^ 8 ≡ 71 }
     ensures { result ≡ decoded_narrow x }
 {
-    let m = high(x);
+    let m = byte(x, 3, 4);
     let should_be_zero = field(x, 0, 3);
     match x >> 7 {
         _ if should_be_zero != 0 || m == 15 => Err(Refusal::Unpredictable),
@@ -287,11 +281,9 @@ fn miscellaneous(x: u32) -> Result<Instruction, Refusal>
 {
     match x >> 8 {
         0b1011_0000 => Ok(Instruction::Special(adjust(x))),
-        0b1011_0010 => Ok(extend(x)),
-        0b1011_0100 | 0b1011_0101 => push(x),
+        0b1011_0010 | 0b1011_1010 => convert(x),
+        0b1011_0100 | 0b1011_0101 | 0b1011_1100 | 0b1011_1101 => stack(x),
         0b1011_0110 => change_state(x),
-        0b1011_1010 => reverse(x),
-        0b1011_1100 | 0b1011_1101 => pop(x),
         0b1011_1110 => Ok(Instruction::System(System::Bkpt {
             imm: field(x, 0, 8),
         })),
@@ -312,30 +304,16 @@ fn adjust(x: u32) -> Special
     }
 }
 
-/// Extensions: 10110010.
-fn extend(x: u32) -> Instruction
-    requires { x / 2 ^ 8 ≡ 178 }
-    ensures { Ok result ≡ decoded_narrow x }
+/// Extensions and reversals: 1011x010.
+fn convert(x: u32) -> Result<Instruction, Refusal>
+    requires { (x / 2 ^ 12 ≡ 11) × (x / 2 ^ 8 % 2 ^ 3 ≡ 2) }
+    ensures { result ≡ decoded_narrow x }
 {
     let op = match x >> 6 {
         0b1011_001000 => Unary::Sxth,
         0b1011_001001 => Unary::Sxtb,
         0b1011_001010 => Unary::Uxth,
-        _ => Unary::Uxtb,
-    };
-    Instruction::Unary {
-        op,
-        d: low(x, 0),
-        m: low(x, 3),
-    }
-}
-
-/// Reversals: 10111010.
-fn reverse(x: u32) -> Result<Instruction, Refusal>
-    requires { x / 2 ^ 8 ≡ 186 }
-    ensures { result ≡ decoded_narrow x }
-{
-    let op = match x >> 6 {
+        0b1011_001011 => Unary::Uxtb,
         0b1011_101000 => Unary::Rev,
         0b1011_101001 => Unary::Rev16,
         0b1011_101010 => return Err(Refusal::Undefined),
@@ -348,31 +326,17 @@ fn reverse(x: u32) -> Result<Instruction, Refusal>
     })
 }
 
-/// PUSH: 1011010.
-fn push(x: u32) -> Result<Instruction, Refusal>
-    requires { x / 2 ^ 9 ≡ 90 }
+/// PUSH and POP: 1011x10.
+fn stack(x: u32) -> Result<Instruction, Refusal>
+    requires { (x / 2 ^ 12 ≡ 11) × (x / 2 ^ 9 % 2 ^ 2 ≡ 2) }
     ensures { result ≡ decoded_narrow x }
 {
-    let list = list(x);
-    let lr = field(x, 8, 1) == 1;
-    if list == 0 && !lr {
-        Err(Refusal::Unpredictable)
-    } else {
-        Ok(Instruction::Multiple(Multiple::Push { list, lr }))
-    }
-}
-
-/// POP: 1011110.
-fn pop(x: u32) -> Result<Instruction, Refusal>
-    requires { x / 2 ^ 9 ≡ 94 }
-    ensures { result ≡ decoded_narrow x }
-{
-    let list = list(x);
-    let pc = field(x, 8, 1) == 1;
-    if list == 0 && !pc {
-        Err(Refusal::Unpredictable)
-    } else {
-        Ok(Instruction::Multiple(Multiple::Pop { list, pc }))
+    let list = byte(x, 0, 8);
+    let extra = field(x, 8, 1) == 1;
+    match x >> 9 {
+        _ if list == 0 && !extra => Err(Refusal::Unpredictable),
+        0b1011_010 => Ok(Instruction::Multiple(Multiple::Push { list, lr: extra })),
+        _ => Ok(Instruction::Multiple(Multiple::Pop { list, pc: extra })),
     }
 }
 
@@ -410,7 +374,7 @@ fn multiple(x: u32) -> Result<Instruction, Refusal>
     ensures { result ≡ decoded_narrow x }
 {
     let n = low(x, 8);
-    let list = list(x);
+    let list = byte(x, 0, 8);
     match x >> 11 {
         _ if list == 0 => Err(Refusal::Unpredictable),
         0b11000 => Ok(Instruction::Multiple(Multiple::Stm { n, list })),

@@ -1,7 +1,6 @@
 //! The 32-bit encodings, as one number: the first halfword stands above the second.
-ghost use Rattle.std.specs.Prelude.{◌≡◌, ◌/◌, ◌%◌, ◌^◌, if◌then◌else◌, Ok, nat_eq};
-ghost use Rattle.thumb.specs.Decoded.{decoded_wide};
-ghost use Rattle.thumb.specs.Operands.{listed, special_registers};
+ghost use Rattle.std.specs.Prelude.{◌≡◌, ◌/◌, ◌%◌, ◌^◌, Ok};
+ghost use Rattle.thumb.specs.Decoded.{IsControl, decoded_wide};
 
 use super::instructions::{Branch, Instruction, Refusal, SpecialRegister, System};
 use word::{field, sign_extend};
@@ -20,21 +19,14 @@ pub(crate) fn wide(x: u32) -> Result<Instruction, Refusal>
     }
 }
 
-/// 1 for equal bits, 0 for others.
-fn same(a: u32, b: u32) -> u32
-    ensures { result ≡ (if nat_eq a b then 1 else 0) }
-{
-    if a == b { 1 } else { 0 }
-}
-
 /// BL.
 fn link(x: u32) -> Branch
     requires { (x / 2 ^ 27 ≡ 30) × ((x / 2 ^ 14 % 2 ^ 2 ≡ 3) × (x / 2 ^ 12 % 2 ^ 1 ≡ 1)) }
     ensures { Ok (Instruction.Branch result) ≡ decoded_wide x }
 {
     let s = field(x, 26, 1);
-    let i1 = same(field(x, 13, 1), s);
-    let i2 = same(field(x, 11, 1), s);
+    let i1 = u32::from(field(x, 13, 1) == s);
+    let i2 = u32::from(field(x, 11, 1) == s);
     let imm = (((s * 2 + i1) * 2 + i2) * 1024 + field(x, 16, 10)) * 2048 + field(x, 0, 11);
     Branch::Bl {
         offset: sign_extend(imm * 2, 25),
@@ -43,7 +35,7 @@ fn link(x: u32) -> Branch
 
 /// Moves to and from special registers, barriers and UDF.
 fn control(x: u32) -> Result<Instruction, Refusal>
-    requires { (x / 2 ^ 27 ≡ 30) × ((x / 2 ^ 14 % 2 ^ 2 ≡ 2) × (x / 2 ^ 12 % 2 ^ 1 ≡ 0)) }
+    requires { IsControl x 27 30 }
     ensures { result ≡ decoded_wide x }
 {
     match x >> 21 {
@@ -55,29 +47,9 @@ fn control(x: u32) -> Result<Instruction, Refusal>
     }
 }
 
-/// The special register of a SYSm value; the other values are reserved.
-fn special_register(sysm: u32) -> Option<SpecialRegister>
-    ensures { result ≡ listed special_registers sysm }
-{
-    match sysm {
-        0 => Some(SpecialRegister::Apsr),
-        1 => Some(SpecialRegister::Iapsr),
-        2 => Some(SpecialRegister::Eapsr),
-        3 => Some(SpecialRegister::Xpsr),
-        5 => Some(SpecialRegister::Ipsr),
-        6 => Some(SpecialRegister::Epsr),
-        7 => Some(SpecialRegister::Iepsr),
-        8 => Some(SpecialRegister::Msp),
-        9 => Some(SpecialRegister::Psp),
-        16 => Some(SpecialRegister::Primask),
-        20 => Some(SpecialRegister::Control),
-        _ => None,
-    }
-}
-
 /// MSR.
 fn move_to_special(x: u32) -> Result<Instruction, Refusal>
-    requires { (x / 2 ^ 21 ≡ 1948) × ((x / 2 ^ 14 % 2 ^ 2 ≡ 2) × (x / 2 ^ 12 % 2 ^ 1 ≡ 0)) }
+    requires { IsControl x 21 1948 }
     ensures { result ≡ decoded_wide x }
 {
     let n = field(x, 16, 4) as u8;
@@ -85,15 +57,13 @@ fn move_to_special(x: u32) -> Result<Instruction, Refusal>
     if !proper || n == 13 || n == 15 {
         return Err(Refusal::Unpredictable);
     }
-    match special_register(field(x, 0, 8)) {
-        Some(to) => Ok(Instruction::System(System::Msr { to, n })),
-        None => Err(Refusal::Unpredictable),
-    }
+    let to = SpecialRegister::try_from(field(x, 0, 8))?;
+    Ok(Instruction::System(System::Msr { to, n }))
 }
 
 /// MRS.
 fn move_from_special(x: u32) -> Result<Instruction, Refusal>
-    requires { (x / 2 ^ 21 ≡ 1951) × ((x / 2 ^ 14 % 2 ^ 2 ≡ 2) × (x / 2 ^ 12 % 2 ^ 1 ≡ 0)) }
+    requires { IsControl x 21 1951 }
     ensures { result ≡ decoded_wide x }
 {
     let d = field(x, 8, 4) as u8;
@@ -101,15 +71,13 @@ fn move_from_special(x: u32) -> Result<Instruction, Refusal>
     if !proper || d == 13 || d == 15 {
         return Err(Refusal::Unpredictable);
     }
-    match special_register(field(x, 0, 8)) {
-        Some(from) => Ok(Instruction::System(System::Mrs { d, from })),
-        None => Err(Refusal::Unpredictable),
-    }
+    let from = SpecialRegister::try_from(field(x, 0, 8))?;
+    Ok(Instruction::System(System::Mrs { d, from }))
 }
 
 /// DSB, DMB and ISB.
 fn barrier(x: u32) -> Result<Instruction, Refusal>
-    requires { (x / 2 ^ 21 ≡ 1949) × ((x / 2 ^ 14 % 2 ^ 2 ≡ 2) × (x / 2 ^ 12 % 2 ^ 1 ≡ 0)) }
+    requires { IsControl x 21 1949 }
     ensures { result ≡ decoded_wide x }
 {
     let option = field(x, 0, 4);
@@ -132,7 +100,7 @@ fn barrier(x: u32) -> Result<Instruction, Refusal>
 
 /// UDF, encoding T2.
 fn undefined_for_good(x: u32) -> Result<Instruction, Refusal>
-    requires { (x / 2 ^ 21 ≡ 1983) × ((x / 2 ^ 14 % 2 ^ 2 ≡ 2) × (x / 2 ^ 12 % 2 ^ 1 ≡ 0)) }
+    requires { IsControl x 21 1983 }
     ensures { result ≡ decoded_wide x }
 {
     let imm = field(x, 16, 4) * 4096 + field(x, 0, 12);

@@ -1,33 +1,22 @@
 // A case: one instruction with the core and the data before and after it.
-ghost use Rattle.std.specs.Prelude.{◌+◌, ◌≤◌};
-
 use crate::hexadecimal::number;
+use bus::Refusal;
+use std::num::TryFromIntError;
 use std::str::Split;
+use thiserror::Error;
 
-// How many numbers a line has of the core and the data.
-pub const NUMBERS: usize = 30;
-
-// R0 to R12, SP, LR, PC, NZCV (N is bit 3), PRIMASK, and twelve words of data.
-pub type Row = [u32; NUMBERS];
-
-pub const SP: usize = 13;
-
-pub const LR: usize = 14;
-
-pub const PC: usize = 15;
-
-pub const NZCV: usize = 16;
-
-pub const PRIMASK: usize = 17;
-
-pub const DATA: usize = 18;
-
-// All numbers of a line: two halfwords and the base, then the row before the step, and the row after it.
-const FIELDS: usize = 63;
-
-const BEFORE: usize = 3;
-
-const AFTER: usize = 33;
+// What a line says of the core and the data, in the order of its numbers.
+#[derive(Clone, Copy, Default)]
+pub struct Row {
+    pub general: [u32; 13],
+    pub sp: u32,
+    pub lr: u32,
+    pub pc: u32,
+    // N is bit 3
+    pub nzcv: u32,
+    pub primask: u32,
+    pub data: [u32; 12],
+}
 
 #[derive(Clone, Copy)]
 pub struct Case {
@@ -41,78 +30,81 @@ pub struct Case {
 }
 
 // Why a line is no case.
-#[derive(Clone, Copy)]
+#[derive(Debug, Drop, Error)]
 pub enum Mistake {
+    #[error("too few fields")]
     TooShort,
+    #[error("too many fields")]
     TooLong,
+    #[error("a field is no hexadecimal number of 32 bits")]
     NotANumber,
     // a halfword, a flag nibble or a PRIMASK that does not fit
+    #[error("a field is too large")]
     TooLarge,
     // the core or the memory cannot be as the line says
+    #[error("no core or memory can be so")]
     Refused,
 }
 
-impl Mistake {
-    pub fn words(self) -> &'static str {
-        match self {
-            Mistake::TooShort => "too few fields",
-            Mistake::TooLong => "too many fields",
-            Mistake::NotANumber => "a field is no hexadecimal number of 32 bits",
-            Mistake::TooLarge => "a field is too large",
-            Mistake::Refused => "no core or memory can be so",
-        }
+impl From<TryFromIntError> for Mistake {
+    fn from(_: TryFromIntError) -> Mistake {
+        Mistake::TooLarge
+    }
+}
+
+impl From<Refusal> for Mistake {
+    fn from(_: Refusal) -> Mistake {
+        Mistake::Refused
     }
 }
 
 fn next<'a>(fields: &mut Split<'a, char>) -> Result<&'a str, Mistake> {
-    match fields.next() {
-        Some(field) => Ok(field),
-        None => Err(Mistake::TooShort),
-    }
+    fields.next().ok_or(Mistake::TooShort)
 }
 
-// In the row after the step `-` stands for the number before it.
-fn numbers(line: &str) -> Result<[u32; FIELDS], Mistake> {
-    let mut fields = line.split(' ');
-    let mut numbers = [0; FIELDS];
-    for index in 0..FIELDS {
-        let field = next(&mut fields)?;
-        numbers[index] = if field == "-" && index >= AFTER {
-            numbers[index - NUMBERS]
-        } else {
-            number(field)?
-        };
+impl Row {
+    // The row of what `read` makes of each number of this one, in their order.
+    fn try_map<F: FnMut(u32) -> Result<u32, Mistake>>(self, mut read: F) -> Result<Row, Mistake>
+        requires { (state : F) (x : _) → F.pre state x }
+    {
+        Ok(Row {
+            general: self.general.try_map(&mut read)?,
+            sp: read(self.sp)?,
+            lr: read(self.lr)?,
+            pc: read(self.pc)?,
+            nzcv: read(self.nzcv)?,
+            primask: read(self.primask)?,
+            data: self.data.try_map(read)?,
+        })
     }
-    match fields.next() {
-        Some(_) => Err(Mistake::TooLong),
-        None => Ok(numbers),
-    }
-}
-
-fn row(numbers: [u32; FIELDS], from: usize) -> Row
-    requires { from + 30 ≤ 63 }
-{
-    let mut row = [0; NUMBERS];
-    for index in 0..NUMBERS {
-        row[index] = numbers[from + index];
-    }
-    row
 }
 
 impl Case {
+    // Two halfwords, the base, the row before the step, and the row after it, where `-` stands for the number before.
     pub fn parse(line: &str) -> Result<Case, Mistake> {
-        let numbers = numbers(line)?;
-        let [first, second, base, ..] = numbers;
-        let before = row(numbers, BEFORE);
-        if first > 0xffff || second > 0xffff || before[NZCV] > 15 || before[PRIMASK] > 1 {
+        let mut fields = line.split(' ');
+        let first = number(next(&mut fields)?)?;
+        let second = number(next(&mut fields)?)?;
+        let base = number(next(&mut fields)?)?;
+        let before = Row::default().try_map(|_| number(next(&mut fields)?))?;
+        let after = before.try_map(|earlier| {
+            match next(&mut fields)? {
+                "-" => Ok(earlier),
+                field => number(field),
+            }
+        })?;
+        if fields.next().is_some() {
+            return Err(Mistake::TooLong);
+        }
+        if before.nzcv > 15 || before.primask > 1 {
             return Err(Mistake::TooLarge);
         }
         Ok(Case {
-            first: first as u16,
-            second: second as u16,
+            first: first.try_into()?,
+            second: second.try_into()?,
             base,
             before,
-            after: row(numbers, AFTER),
+            after,
         })
     }
 }

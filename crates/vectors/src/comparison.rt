@@ -1,61 +1,77 @@
 // Whether a step agrees with what the emulator made of it.
-use crate::case::{Case, NUMBERS, Row};
+use crate::case::Row;
 use crate::report::Report;
-use crate::trial::attempt;
+use crate::trial::Outcome;
 use arch::{Answer, Registers};
 use std::io;
 
-// What is compared: the numbers of a line, and then what has to stay.
-const FIELDS: usize = 41;
-
-const NAMES: [&str; FIELDS] = [
-    "R0", "R1", "R2", "R3", "R4", "R5", "R6", "R7", "R8", "R9", "R10", "R11", "R12", "SP", "LR",
-    "PC", "NZCV", "PRIMASK", "W0", "W1", "W2", "W3", "W4", "W5", "W6", "W7", "W8", "W9", "W10",
-    "W11", "answer", "PSP", "T", "nPRIV", "SPSEL", "IPSR", "pending", "active", "armed", "ranked",
-    "locked",
+const GENERAL: [&str; 13] = [
+    "R0", "R1", "R2", "R3", "R4", "R5", "R6", "R7", "R8", "R9", "R10", "R11", "R12",
 ];
 
-// How many exceptions have a rank above 0.
-fn ranked(ranks: [u8; 48]) -> u64 {
-    let mut count = 0u64;
-    for rank in ranks {
-        if rank != 0 {
-            count = count.saturating_add(1);
-        }
-    }
-    count
-}
+const DATA: [&str; 12] = [
+    "W0", "W1", "W2", "W3", "W4", "W5", "W6", "W7", "W8", "W9", "W10", "W11",
+];
 
-fn fields(row: Row, answer: Answer, r: &Registers) -> [u64; FIELDS] {
-    let mut fields = [0; FIELDS];
-    for index in 0..NUMBERS {
-        fields[index] = u64::from(row[index]);
-    }
-    fields[30] = u64::from(answer.number());
-    fields[31] = u64::from(r.psp);
-    fields[32] = u64::from(r.thumb);
-    fields[33] = u64::from(r.control.npriv);
-    fields[34] = u64::from(r.control.spsel);
-    fields[35] = u64::from(r.current);
-    fields[36] = r.exceptions.pending;
-    fields[37] = r.exceptions.active;
-    fields[38] = r.exceptions.armed;
-    fields[39] = ranked(r.exceptions.ranks);
-    fields[40] = u64::from(r.locked);
-    fields
-}
-
-pub fn compare(rt: &HostRuntime, report: &mut Report, case: &Case) -> io::Result<()> {
-    let outcome = match attempt(case) {
-        Ok(outcome) => outcome,
-        Err(mistake) => return report.mistake(rt, mistake),
-    };
-    let expected = fields(case.after, Answer::Ran, &outcome.before);
-    let found = fields(outcome.row, outcome.answer, &outcome.after);
-    report.begin_case();
-    for index in 0..FIELDS {
-        report.hold(rt, NAMES[index], expected[index], found[index])?;
-    }
-    report.end_case();
+pub fn compare(rt: &HostRuntime, report: &mut Report, outcome: &Outcome) -> io::Result<()> {
+    let differences = report.differences();
+    compare_rows(rt, report, &outcome.expected, &outcome.found)?;
+    report.hold(rt, "answer", Answer::Ran.number(), outcome.answer.number())?;
+    compare_rest(rt, report, &outcome.before, &outcome.after)?;
+    report.count(report.differences() == differences);
     Ok(())
+}
+
+fn compare_words(
+    rt: &HostRuntime,
+    report: &mut Report,
+    names: &[&str],
+    expected: &[u32],
+    found: &[u32],
+) -> io::Result<()> {
+    for ((name, expected), found) in names.iter().zip(expected).zip(found) {
+        report.hold(rt, name, *expected, *found)?;
+    }
+    Ok(())
+}
+
+fn compare_rows(
+    rt: &HostRuntime,
+    report: &mut Report,
+    expected: &Row,
+    found: &Row,
+) -> io::Result<()> {
+    compare_words(rt, report, &GENERAL, &expected.general, &found.general)?;
+    report.hold(rt, "SP", expected.sp, found.sp)?;
+    report.hold(rt, "LR", expected.lr, found.lr)?;
+    report.hold(rt, "PC", expected.pc, found.pc)?;
+    report.hold(rt, "NZCV", expected.nzcv, found.nzcv)?;
+    report.hold(rt, "PRIMASK", expected.primask, found.primask)?;
+    compare_words(rt, report, &DATA, &expected.data, &found.data)
+}
+
+// What has to stay.
+fn compare_rest(
+    rt: &HostRuntime,
+    report: &mut Report,
+    before: &Registers,
+    after: &Registers,
+) -> io::Result<()> {
+    let old = before.exceptions;
+    let new = after.exceptions;
+    report.hold(rt, "PSP", before.psp, after.psp)?;
+    report.hold(rt, "T", before.thumb, after.thumb)?;
+    report.hold(rt, "nPRIV", before.control.npriv, after.control.npriv)?;
+    report.hold(rt, "SPSEL", before.control.spsel, after.control.spsel)?;
+    report.hold(rt, "IPSR", before.current, after.current)?;
+    report.hold(rt, "pending", old.pending, new.pending)?;
+    report.hold(rt, "active", old.active, new.active)?;
+    report.hold(rt, "armed", old.armed, new.armed)?;
+    report.hold(rt, "ranked", ranked(&old.ranks), ranked(&new.ranks))?;
+    report.hold(rt, "locked", before.locked, after.locked)
+}
+
+// How many exceptions have a rank above 0.
+fn ranked(ranks: &[u8]) -> u64 {
+    ranks.iter().filter(|rank| **rank != 0).count() as u64
 }

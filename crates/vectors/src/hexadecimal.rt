@@ -10,8 +10,5 @@ pub fn number(text: &str) -> Result<u32, Mistake>
     if let [b'+', ..] = text.as_bytes() {
         return Err(Mistake::NotANumber);
     }
-    match u32::from_str_radix(text, 16) {
-        Ok(number) => Ok(number),
-        Err(_) => Err(Mistake::NotANumber),
-    }
+    u32::from_str_radix(text, 16).map_err(|_| Mistake::NotANumber)
 }

@@ -8,16 +8,16 @@ mod hexadecimal;
 mod report;
 mod trial;
 
-use crate::case::Case;
 use crate::comparison::compare;
 use crate::report::Report;
+use crate::trial::attempt;
 use anyhow::anyhow;
 use std::io;
 use std::io::Read;
 
 fn play(rt: &HostRuntime, report: &mut Report, line: &str) -> io::Result<()> {
-    match Case::parse(line) {
-        Ok(case) => compare(rt, report, &case),
+    match attempt(line) {
+        Ok(outcome) => compare(rt, report, &outcome),
         Err(mistake) => report.mistake(rt, mistake),
     }
 }
@@ -46,7 +46,7 @@ fn play_all<'a>(
 fn run(rt: &HostRuntime) -> anyhow::Result<()> {
     let mut text = String::new(rt.alloc());
     rt.stdin().read_to_string(&mut text)?;
-    let mut report = Report::new();
+    let mut report = Report::default();
     play_all(rt, &mut report, text.as_str(), "unnamed")?;
     report.end(rt)?;
     if !report.is_clean() {

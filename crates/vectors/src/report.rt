@@ -5,18 +5,18 @@ use std::io;
 // How many differences, and how many malformed lines, are printed.
 const MOST: u64 = 50;
 
-#[derive(Clone, Copy)]
+#[derive(Clone, Copy, Default)]
 struct Count {
     cases: u64,
     agreed: u64,
 }
 
-const NONE: Count = Count {
-    cases: 0,
-    agreed: 0,
-};
-
 impl Count {
+    fn note(&mut self, agrees: bool) {
+        self.cases = self.cases.saturating_add(1);
+        self.agreed = self.agreed.saturating_add(u64::from(agrees));
+    }
+
     fn print(self, rt: &HostRuntime, name: &str) -> io::Result<()> {
         let cases = self.cases;
         let agreed = self.agreed;
@@ -24,55 +24,41 @@ impl Count {
     }
 }
 
-#[derive(Drop)]
+#[derive(Default, Drop)]
 pub struct Report {
     // the line that is played
     line: u64,
     of_form: Count,
     of_all: Count,
     differences: u64,
-    // `differences` where the case began
-    before: u64,
     malformed: u64,
 }
 
 impl Report {
-    pub fn new() -> Report {
-        Report {
-            line: 0,
-            of_form: NONE,
-            of_all: NONE,
-            differences: 0,
-            before: 0,
-            malformed: 0,
-        }
-    }
-
     pub fn begin_line(&mut self) {
         self.line = self.line.saturating_add(1);
     }
 
-    pub fn begin_case(&mut self) {
-        self.of_form.cases = self.of_form.cases.saturating_add(1);
-        self.of_all.cases = self.of_all.cases.saturating_add(1);
-        self.before = self.differences;
+    pub fn differences(&self) -> u64 {
+        self.differences
     }
 
-    pub fn end_case(&mut self) {
-        if self.differences == self.before {
-            self.of_form.agreed = self.of_form.agreed.saturating_add(1);
-            self.of_all.agreed = self.of_all.agreed.saturating_add(1);
-        }
+    // One more case.
+    pub fn count(&mut self, agrees: bool) {
+        self.of_form.note(agrees);
+        self.of_all.note(agrees);
     }
 
     // A field of the case.
-    pub fn hold(
+    pub fn hold<T: Into<u64>>(
         &mut self,
         rt: &HostRuntime,
         field: &str,
-        expected: u64,
-        found: u64,
+        expected: T,
+        found: T,
     ) -> io::Result<()> {
+        let expected: u64 = expected.into();
+        let found: u64 = found.into();
         if expected == found {
             return Ok(());
         }
@@ -90,14 +76,13 @@ impl Report {
             return Ok(());
         }
         let line = self.line;
-        let words = mistake.words();
-        println!(rt; "line {line}: {words}")
+        println!(rt; "line {line}: {mistake}")
     }
 
     // The cases since the last form.
     pub fn end_form(&mut self, rt: &HostRuntime, form: &str) -> io::Result<()> {
         let count = self.of_form;
-        self.of_form = NONE;
+        self.of_form = Count::default();
         if count.cases == 0 {
             return Ok(());
         }

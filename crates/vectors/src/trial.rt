@@ -1,5 +1,5 @@
 // One step of a case.
-use crate::case::{Case, DATA, LR, Mistake, NUMBERS, NZCV, PC, PRIMASK, Row, SP};
+use crate::case::{Case, Mistake, Row};
 use arch::{Answer, Control, Exceptions, Registers};
 use bus::Refusal;
 use cpu::Core;
@@ -11,29 +11,22 @@ const DATA_SIZE: usize = 48;
 
 const CODE_SIZE: usize = 8;
 
-const WORDS: usize = 12;
-
-// What a step came to.
+// What a step came to, beside what the line says.
 #[derive(Clone, Copy)]
 pub struct Outcome {
     pub answer: Answer,
     pub before: Registers,
     pub after: Registers,
-    pub row: Row,
-}
-
-impl From<Refusal> for Mistake {
-    fn from(_refusal: Refusal) -> Mistake {
-        Mistake::Refused
-    }
+    pub expected: Row,
+    pub found: Row,
 }
 
 fn flags(nzcv: u32) -> Flags {
     Flags {
-        n: nzcv / 8 % 2 == 1,
-        z: nzcv / 4 % 2 == 1,
-        c: nzcv / 2 % 2 == 1,
-        v: nzcv % 2 == 1,
+        n: word::bit(nzcv, 3),
+        z: word::bit(nzcv, 2),
+        c: word::bit(nzcv, 1),
+        v: word::bit(nzcv, 0),
     }
 }
 
@@ -42,20 +35,16 @@ fn nibble(flags: Flags) -> u32 {
 }
 
 // Privileged Thread mode on the main stack, T set, nothing pending or active.
-fn registers(row: Row) -> Registers {
-    let mut general = [0; 13];
-    for index in 0..13usize {
-        general[index] = row[index];
-    }
+fn registers(row: &Row) -> Registers {
     Registers {
-        general,
-        lr: row[LR],
-        msp: row[SP],
+        general: row.general,
+        lr: row.lr,
+        msp: row.sp,
         psp: 0,
-        pc: row[PC],
-        flags: flags(row[NZCV]),
+        pc: row.pc,
+        flags: flags(row.nzcv),
         thumb: true,
-        primask: row[PRIMASK] == 1,
+        primask: row.primask == 1,
         control: Control {
             npriv: false,
             spsel: false,
@@ -71,42 +60,24 @@ fn registers(row: Row) -> Registers {
     }
 }
 
-fn data(row: Row) -> [u8; DATA_SIZE] {
-    let mut data = [0; DATA_SIZE];
-    for index in 0..WORDS {
-        let [a, b, c, d] = row[DATA + index].to_le_bytes();
-        data[4 * index] = a;
-        data[4 * index + 1] = b;
-        data[4 * index + 2] = c;
-        data[4 * index + 3] = d;
+// What the registers and the data are after a step.
+fn row(r: &Registers, data: [u32; 12]) -> Row {
+    Row {
+        general: r.general,
+        sp: r.msp,
+        lr: r.lr,
+        pc: r.pc,
+        nzcv: nibble(r.flags),
+        primask: u32::from(r.primask),
+        data,
     }
-    data
-}
-
-// What the registers and the data are after a step, in the order of a line.
-fn row(r: &Registers, data: [u8; DATA_SIZE]) -> Row {
-    let mut row = [0; NUMBERS];
-    for index in 0..13usize {
-        row[index] = r.general[index];
-    }
-    row[SP] = r.msp;
-    row[LR] = r.lr;
-    row[PC] = r.pc;
-    row[NZCV] = nibble(r.flags);
-    row[PRIMASK] = u32::from(r.primask);
-    for index in 0..WORDS {
-        let at = 4 * index;
-        let bytes = [data[at], data[at + 1], data[at + 2], data[at + 3]];
-        row[DATA + index] = u32::from_le_bytes(bytes);
-    }
-    row
 }
 
 // The two words that the instruction lies in, with zeros beside it.
 fn code(case: &Case) -> [u8; CODE_SIZE] {
     let [a, b] = case.first.to_le_bytes();
     let [c, d] = case.second.to_le_bytes();
-    if case.before[PC] % 4 == 0 {
+    if case.before.pc % 4 == 0 {
         [a, b, c, d, 0, 0, 0, 0]
     } else {
         [0, 0, a, b, c, d, 0, 0]
@@ -116,7 +87,7 @@ fn code(case: &Case) -> [u8; CODE_SIZE] {
 // The data can be written, the instruction cannot; they lie apart.
 fn step(case: &Case, core: &mut Core, data: &mut [u8]) -> Result<Answer, Refusal> {
     let mut code = code(case);
-    let at = case.before[PC] / 4 * 4;
+    let at = case.before.pc / 4 * 4;
     let limit = Limit::new(at.max(case.base))?;
     let data = Strip::new(data, case.base, 0)?;
     let code = Strip::new(&mut code, at, CODE_SIZE as u32)?;
@@ -131,16 +102,18 @@ fn step(case: &Case, core: &mut Core, data: &mut [u8]) -> Result<Answer, Refusal
     Err(Refusal::BadSetting)
 }
 
-pub fn attempt(case: &Case) -> Result<Outcome, Mistake> {
-    let before = registers(case.before);
+pub fn attempt(line: &str) -> Result<Outcome, Mistake> {
+    let case = Case::parse(line)?;
+    let before = registers(&case.before);
     let mut core = Core::with_registers(before)?;
-    let mut data = data(case.before);
-    let answer = step(case, &mut core, &mut data)?;
+    let mut data = case.before.data.map(|word| word.to_le_bytes());
+    let answer = step(&case, &mut core, data.as_flattened_mut())?;
     let after = *core.registers();
     Ok(Outcome {
         answer,
         before,
         after,
-        row: row(&after, data),
+        expected: case.after,
+        found: row(&after, data.map(|bytes| u32::from_le_bytes(bytes))),
     })
 }

@@ -1,5 +1,4 @@
 pub mod Asr
-pub mod Comparing
 pub mod EachBit
 pub mod Lowest
 pub mod Members

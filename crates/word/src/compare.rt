@@ -15,7 +15,8 @@ pub fn compared(x: u32, y: u32) -> Flags
     Flags::of_sum(difference(x, y))
 }
 
-fn difference(x: u32, y: u32) -> Sum
+/// `x - y`, with its carry and overflow.
+pub fn difference(x: u32, y: u32) -> Sum
     ensures value { result ≡ add_with_carry x (not_word y) true }
     ensures orders { Orders x y (of_sum result) }
 {

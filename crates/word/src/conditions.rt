@@ -4,7 +4,7 @@ ghost use Rattle.word.specs.Conditions.{condition_of, number, passes};
 use super::flags::Flags;
 
 /// The conditions of a branch, in the order of their numbers.
-#[derive(Clone, Copy)]
+#[derive(Clone, Copy, Debug, PartialEq, Eq)]
 pub enum Condition {
     Eq,
     Ne,
@@ -24,6 +24,7 @@ pub enum Condition {
 
 impl Condition {
     /// The condition of a number; the numbers from 14 up have none.
+    // as `char::from_u32`: a number with none is no error, since branches leave two for UDF and SVC
     pub fn from_number(n: u32) -> Option<Condition>
         ensures value { result ≡ condition_of n }
         ensures inverse { MatchOption result (14 ≤ n) (λ c. number c ≡ n) }

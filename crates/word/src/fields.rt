@@ -7,7 +7,7 @@ use super::extend::zero_extend;
 pub(crate) fn shr(x: u32, n: u32) -> u32
     ensures { result ≡ x / 2 ^ n }
 {
-    if n < 32 { x >> n } else { 0 }
+    x.checked_shr(n).unwrap_or(0)
 }
 
 /// The bits `from` to `from + count - 1` of `x`; those from 32 up are 0.

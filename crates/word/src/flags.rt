@@ -7,7 +7,7 @@ use super::shifts::Shifted;
 use super::sums::Sum;
 
 /// The condition flags of APSR.
-#[derive(Clone, Copy)]
+#[derive(Clone, Copy, Debug, PartialEq, Eq)]
 pub struct Flags {
     pub n: bool,
     pub z: bool,

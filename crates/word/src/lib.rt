@@ -18,7 +18,7 @@ mod tests;
 
 pub use addresses::align;
 pub use bitwise::{Logic, logical, not};
-pub use compare::compared;
+pub use compare::{compared, difference};
 pub use conditions::Condition;
 pub use extend::{sign_extend, zero_extend};
 pub use fields::{bit, field};

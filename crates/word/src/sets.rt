@@ -2,11 +2,13 @@ ghost use Rattle.std.specs.Prelude.{◌≡◌, MatchOption};
 ghost use Rattle.word.specs.Fields.{bit_of};
 ghost use Rattle.word.specs.Sets.{Added, Least, Mask, Removed};
 
+// Functions on a plain word: the registers hold their sets as words, and what is defined of them is on numbers.
+
 /// The mask of `k`: empty from 64 up.
 fn mask(k: u32) -> u64
     ensures { Mask 64 k result }
 {
-    if k < 64 { 1 << k } else { 0 }
+    1_u64.checked_shl(k).unwrap_or(0)
 }
 
 /// Whether `k` is in the set, whose members are the bits that are set.

@@ -4,7 +4,7 @@ ghost use Rattle.word.specs.Shifts.{asr_c, bit_after, by_kind, lsl_c, lsr_c, ror
 
 use super::fields::{bit, shr};
 
-#[derive(Clone, Copy)]
+#[derive(Clone, Copy, Debug, PartialEq, Eq)]
 pub enum Shift {
     Lsl,
     Lsr,
@@ -13,7 +13,7 @@ pub enum Shift {
 }
 
 /// A shifted word, with the last bit shifted out of it.
-#[derive(Clone, Copy)]
+#[derive(Clone, Copy, Debug, PartialEq, Eq)]
 pub struct Shifted {
     pub value: u32,
     pub carry: bool,

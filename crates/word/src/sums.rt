@@ -5,7 +5,7 @@ ghost use Rattle.word.specs.Sums.{add_with_carry, one_if, signed_sum, unsigned_s
 use super::fields::bit;
 
 /// A sum with what does not fit the word.
-#[derive(Clone, Copy)]
+#[derive(Clone, Copy, Debug, PartialEq, Eq)]
 pub struct Sum {
     pub value: u32,
     pub carry: bool,

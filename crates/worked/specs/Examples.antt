@@ -1,5 +1,5 @@
 -- Worked examples, each a step of a core from address 0 over memory that allows everything.
-use Rattle.std.specs.Prelude.{◌≡◌, ℕ, ◌/◌, ◌%◌, Bool, true, false, cond, ◌∷◌, replicate, None, ◌==◌, slice_index}
+use Rattle.std.specs.Prelude.{◌≡◌, ℕ, ◌/◌, ◌%◌, Bool, true, false, cond, ◌∷◌, replicate, Some, None, Option, ◌==◌, slice_index}
 use Rattle.bus.specs.Fault.{cause_number}
 use Rattle.bus.specs.Program.{World, run}
 use Rattle.word.specs.declared.flags.Flags.{Flags}
@@ -56,8 +56,8 @@ abbrev pub fault_at : ℕ → Registers → ℕ
 fault_at halfword s = fault_of (run (step s) (memory halfword)).0.0
 
 -- base 0x100, 2^8 bytes, the lowest eighth left out
-abbrev pub region : Region
-region = record { on = true; base = 0x100; exponent = 8; rights = Everything; no_fetch = false; sub_marks = 1 }
+abbrev pub region : Option Region
+region = Some (record { base = 0x100; exponent = 8; rights = Everything; no_fetch = false; sub_marks = 1 })
 
 pub record Examples : Type 0 where
   -- ADDS R0, R0, #1 past the greatest signed word

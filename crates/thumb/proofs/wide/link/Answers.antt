@@ -1,4 +1,4 @@
-use Rattle.std.proofs.Common.{◌≡◌, ℕ, ◌+◌, ◌*◌, ◌%◌, ◌^◌, ◌<◌, [], ◌∷◌, arith}
+use Rattle.std.proofs.Common.{◌≡◌, ℕ, ◌+◌, ◌*◌, ◌%◌, ◌^◌, ◌<◌, cond, eqb, [], ◌∷◌, arith}
 use Rattle.std.proofs.lemmas.Bool.Decides.{nat_tests}
 use Rattle.thumb.specs.Rows.{wide_rows}
 use Rattle.thumb.proofs.Known.{above, slice}
@@ -14,8 +14,10 @@ whole s i1 i2 imm10 imm11 a b c d e = omega arith
 pub returns : goal.returns
 unfolding settled
 returns c =
+    let i1 : c.from-i1.result ≡ cond (eqb c.field.result c.field-s.result) 1 0 = grind (arith, nat_tests) in
+    let i2 : c.from-i2.result ≡ cond (eqb c.field-2.result c.field-s.result) 1 0 = grind (arith, nat_tests) in
     let e =
-    whole c.field-s.result c.same-i1.result c.same-i2.result c.field-3.result c.field-4.result
+    whole c.field-s.result c.from-i1.result c.from-i2.result c.field-3.result c.field-4.result
     (omega arith) (grind (arith, nat_tests)) (grind (arith, nat_tests)) (omega arith) (omega arith)
     in
     settles wide_rows (above 27 30 ∷ slice 14 2 3 ∷ slice 12 1 1 ∷ []) c.args.x

@@ -5,12 +5,12 @@ use Rattle.thumb.proofs.wide.move_to_special.Goals as goal
 
 pub returns-then-not-proper : goal.returns-then-not-proper
 unfolding settled
-returns-then-not-proper c = by_control c.args.x 21 1948 (c.requires.0, (c.requires.1.0, (c.requires.1.1, tt))) (grind (arith, nat_tests))
+returns-then-not-proper c = by_control c.args.x 21 1948 c.requires (grind (arith, nat_tests))
 
-pub returns-in-Some : goal.returns-in-Some
+pub returns-in_err-to : goal.returns-in_err-to
 unfolding settled
-returns-in-Some c = by_control c.args.x 21 1948 (c.requires.0, (c.requires.1.0, (c.requires.1.1, tt))) (grind (arith, nat_tests))
+returns-in_err-to c = by_control c.args.x 21 1948 c.requires (grind (arith, nat_tests))
 
-pub returns-in-None : goal.returns-in-None
+pub returns : goal.returns
 unfolding settled
-returns-in-None c = by_control c.args.x 21 1948 (c.requires.0, (c.requires.1.0, (c.requires.1.1, tt))) (grind (arith, nat_tests))
+returns c = by_control c.args.x 21 1948 c.requires (grind (arith, nat_tests))

@@ -5,8 +5,8 @@ use Rattle.thumb.proofs.wide.undefined_for_good.Goals as goal
 
 pub returns-then-field-eq1 : goal.returns-then-field-eq1
 unfolding settled
-returns-then-field-eq1 c = by_control c.args.x 21 1983 (c.requires.0, (c.requires.1.0, (c.requires.1.1, tt))) (grind (arith, nat_tests))
+returns-then-field-eq1 c = by_control c.args.x 21 1983 c.requires (grind (arith, nat_tests))
 
 pub returns-else-x-eq3967 : goal.returns-else-x-eq3967
 unfolding settled
-returns-else-x-eq3967 c = by_control c.args.x 21 1983 (c.requires.0, (c.requires.1.0, (c.requires.1.1, tt))) (grind (arith, nat_tests))
+returns-else-x-eq3967 c = by_control c.args.x 21 1983 c.requires (grind (arith, nat_tests))

@@ -4,14 +4,12 @@ use Rattle.parts.proofs.Deciders.{greatest_of_none}
 use Rattle.parts.proofs.Regions.{one_decider}
 use Rattle.parts.proofs.region_check.RegionCheck.lets_pass.Goals as goal
 
-pub returns : goal.returns
-returns g c =
+pub returns-clause-uncovered : goal.returns-clause-uncovered
+returns-clause-uncovered g c =
     let regions = c.args.self.now.table.regions in
     let background = c.args.self.now.background in
     let a = c.args.access in
-    let passed = c.passes_regions.ensures in
-    record {
-      value = passed;
-      uncovered = λ none. passed ∙ ap (λ o. passes_by o regions background a) (greatest_of_none (covered_by regions a.address) (length regions) none);
-      whole = one_decider regions a;
-    }
+    λ none. c.passes_regions.ensures ∙ ap (λ o. passes_by o regions background a) (greatest_of_none (covered_by regions a.address) (length regions) none)
+
+pub returns-clause-whole : goal.returns-clause-whole
+returns-clause-whole g c = one_decider c.args.self.now.table.regions c.args.access
