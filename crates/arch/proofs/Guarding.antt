@@ -27,6 +27,7 @@ use Rattle.thumb.specs.declared.instructions.System.TheVariants.{Svc, Bkpt, Udf,
 use Rattle.thumb.specs.declared.instructions.Transfer.{Transfer}
 use Rattle.thumb.specs.declared.instructions.Transfer.TheVariants.{Str, Strh, Strb, Ldrsb, Ldr, Ldrh, Ldrb, Ldrsh}
 use Rattle.arch.specs.Accesses.{Attempt, then, go_on, fetch, read, write, noting, try_words}
+use Rattle.arch.specs.Answers.{Response}
 use Rattle.arch.specs.Branches.{Done, ran, returns_or_branches, bx_write_pc, branch}
 use Rattle.arch.specs.Entry.{frame_of, frame_words, is_last, take_last, take, take_up}
 use Rattle.arch.specs.Laws.{Sound, FramesUnprivileged, SpecialsHidden}
@@ -40,8 +41,7 @@ use Rattle.arch.specs.Transfers.{address_of, loading, storing, transfer, multipl
 use Rattle.arch.specs.declared.answers.Answer.TheVariants.{Entered}
 use Rattle.arch.specs.declared.answers.Call.{Call}
 use Rattle.arch.specs.declared.answers.Call.TheVariants.{Step, Raise, Arm, Rank}
-use Rattle.arch.specs.declared.answers.Response.{Response}
-use Rattle.arch.specs.declared.answers.Response.TheVariants.{Stepped}
+use Rattle.arch.specs.declared.answers.Completed.TheVariants.{Stepped}
 use Rattle.arch.specs.declared.registers.Control.{Control as Controls}
 use Rattle.arch.specs.declared.registers.Registers.{Registers}
 use Rattle.arch.proofs.Executing.{Loaded, loaded}
@@ -49,7 +49,7 @@ use Rattle.arch.proofs.Running.{Steady, steady_self}
 
 -- both answers say that the same exception was taken up
 abbrev pub BothEntered : Response × Registers → Response × Registers → Type 0
-BothEntered a b = (n : ℕ) × (a.0 ≡ Stepped (Entered n)) × (b.0 ≡ Stepped (Entered n))
+BothEntered a b = (n : ℕ) × (a.0 ≡ Ok (Stepped (Entered n))) × (b.0 ≡ Ok (Stepped (Entered n)))
 
 only_then : {A B : Type 0} (p : Attempt A) (next : A → Attempt B) → UnprivilegedOnly p → ((a : A) → UnprivilegedOnly (next a)) → UnprivilegedOnly (then p next)
 only_then p next first each = unprivileged_then p (go_on next) first go

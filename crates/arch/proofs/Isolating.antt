@@ -10,13 +10,13 @@ use Rattle.bus.specs.declared.fault.Fault.{Fault}
 use Rattle.bus.proofs.Isolation.{twins, confined}
 use Rattle.bus.proofs.Programs.{run_always}
 use Rattle.arch.specs.Accesses.{then, go_on, read}
+use Rattle.arch.specs.Answers.{Response}
 use Rattle.arch.specs.Laws.{Sound, Soundness, Twins, Isolation, IsolationStands}
 use Rattle.arch.specs.Machine.{Machine, response, after_call, after_calls, responses, entry, return, how_many}
 use Rattle.arch.specs.Registers.{privileged}
 use Rattle.arch.specs.Step.{answer_to, fresh, reset}
 use Rattle.arch.specs.declared.answers.Call.{Call}
 use Rattle.arch.specs.declared.answers.Call.TheVariants.{Step}
-use Rattle.arch.specs.declared.answers.Response.{Response}
 use Rattle.arch.specs.declared.registers.Registers.{Registers}
 use Rattle.arch.proofs.Counting.{ones_empty, ones_none}
 use Rattle.arch.proofs.Guarding.{BothEntered, guarded_call}

@@ -16,6 +16,7 @@ use Rattle.thumb.specs.declared.instructions.Instruction.TheVariants.{Basic, Dat
 use Rattle.thumb.specs.declared.instructions.Refusal.{Refusal as Undecoded}
 use Rattle.thumb.specs.declared.instructions.Refusal.TheVariants.{Undefined, Unpredictable}
 use Rattle.arch.specs.Accesses.{fetch, try_words}
+use Rattle.arch.specs.Answers.{Response}
 use Rattle.arch.specs.Branches.{Done, ran, returned}
 use Rattle.arch.specs.Data.{unary_value}
 use Rattle.arch.specs.Entry.{frame_of, frame_words, entered, is_last, or_lock, or_hard_fault, take, take_up}
@@ -28,8 +29,7 @@ use Rattle.arch.specs.Transfers.{address_of}
 use Rattle.arch.specs.declared.answers.Answer.TheVariants.{Ran, Entered, Faulted, Locked}
 use Rattle.arch.specs.declared.answers.Call.{Call}
 use Rattle.arch.specs.declared.answers.Call.TheVariants.{Step, Raise, Arm, Rank}
-use Rattle.arch.specs.declared.answers.Response.{Response}
-use Rattle.arch.specs.declared.answers.Response.TheVariants.{Stepped, Accepted, Refused}
+use Rattle.arch.specs.declared.answers.Completed.TheVariants.{Stepped, Accepted}
 use Rattle.arch.specs.declared.registers.Registers.{Registers}
 use Rattle.arch.proofs.Choosing.{Takeable, chosen_takeable}
 use Rattle.arch.proofs.Counting.{ones_with, bit_with, bit_zero}
@@ -102,16 +102,16 @@ module _ (s : Registers) (sound : Sound s) where
   stopped : Running s (locked_core s)
   stopped = record { even = sound.even; main = sound.main; process = sound.process; current = refl; active = refl; npriv = λ _. refl }
 
-  fault_post : (f : Fault) (low : Bool) → Post s (Stepped (cond low (Locked f) (Faulted f)), cond low (locked_core s) (pend s 3))
-  fault_post f true = unmoved (Stepped (Locked f)) (locked_core s) stopped refl refl refl
-  fault_post f false = unmoved (Stepped (Faulted f)) (pend s 3) (waiting 3) refl refl refl
+  fault_post : (f : Fault) (low : Bool) → Post s (Ok (Stepped (cond low (Locked f) (Faulted f))), cond low (locked_core s) (pend s 3))
+  fault_post f true = unmoved (Ok (Stepped (Locked f))) (locked_core s) stopped refl refl refl
+  fault_post f false = unmoved (Ok (Stepped (Faulted f))) (pend s 3) (waiting 3) refl refl refl
 
   -- a handler is privileged
   handler_privileged : handler s ≡ true → privileged s ≡ false → ⊥
   handler_privileged from low = both_ways (privileged s) low (or_left (handler s) (not s.control.npriv) from)
 
   settled : (r : Result Done Fault) → Ends s r → Post s (settle s r)
-  settled (Ok (ran t)) h = unmoved (Stepped Ran) t h refl refl tt
+  settled (Ok (ran t)) h = unmoved (Ok (Stepped Ran)) t h refl refl tt
   settled (Ok (returned t)) h = record {
     sound = h.sound;
     balanced = h.fewer ∙ sym (add-zero (ones s.exceptions.active));
@@ -124,7 +124,7 @@ module _ (s : Registers) (sound : Sound s) where
   instruction_post = always_bind (Ends s) (Post s) (instruction s) (λ r. done (settle s r)) (instruction_ends s sound) settled
 
   -- an exception that was not active is taken up
-  entered_post : (n vector : ℕ) → 2 ≤ n → n < 48 → bit_of s.exceptions.active n ≡ false → Post s (Stepped (Entered n), entered s n vector)
+  entered_post : (n vector : ℕ) → 2 ≤ n → n < 48 → bit_of s.exceptions.active n ≡ false → Post s (Ok (Stepped (Entered n)), entered s n vector)
   entered_post n vector real within inactive = record {
     sound = record {
       even = even_half vector;
@@ -151,7 +151,7 @@ module _ (s : Registers) (sound : Sound s) where
 
   last_post : (n : ℕ) → 2 ≤ n → n < 48 → bit_of s.exceptions.active n ≡ false → (r : Reply) → Always (Post s) (or_lock s n r)
   last_post n real within inactive (Ok vector) = entered_post n vector real within inactive
-  last_post n real within inactive (Err f) = unmoved (Stepped (Locked f)) (locked_core s) stopped refl refl refl
+  last_post n real within inactive (Err f) = unmoved (Ok (Stepped (Locked f))) (locked_core s) stopped refl refl refl
 
   module _ (n : ℕ) (may : Takeable s n) where
     hard_fault_post : is_last n ≡ false → (r : Reply) → Always (Post s) (or_lock s 3 r)
@@ -172,13 +172,13 @@ module _ (s : Registers) (sound : Sound s) where
         always_bind (λ _. Unit {0}) (Post s) frame (take (is_last n) s n) (always_all (λ _. Unit {0}) frame (λ _. tt)) (λ refused _. take_post (is_last n) refl refused)
 
   begin_post : (b : Bool) (o : Option ℕ) → chosen s ≡ o → Always (Post s) (begin b o s)
-  begin_post true o e = unmoved (Refused CoreLocked) s here refl refl refl
+  begin_post true o e = unmoved (Err CoreLocked) s here refl refl refl
   begin_post false (Some n) e = take_up_post n (chosen_takeable s n e)
   begin_post false None e = instruction_post
 
-  accepted : (b : Bool) (refusal : Refusal) (t : Registers) → Running s t → Post s (accept_if b (Refused refusal) s t)
-  accepted true refusal t h = unmoved Accepted t h refl refl tt
-  accepted false refusal t h = unmoved (Refused refusal) s here refl refl refl
+  accepted : (b : Bool) (refusal : Refusal) (t : Registers) → Running s t → Post s (accept_if b (Err refusal) s t)
+  accepted true refusal t h = unmoved (Ok Accepted) t h refl refl tt
+  accepted false refusal t h = unmoved (Err refusal) s here refl refl refl
 
   pub call_post : (c : Call) → Always (Post s) (answer_to c s)
   unfolding answer_to

@@ -9,11 +9,11 @@ use Rattle.word.specs.Addresses.{align_to}
 use Rattle.word.specs.Fields.{bit_of}
 use Rattle.word.specs.Sets.{set_with, set_without}
 use Rattle.arch.specs.Accesses.{try_words}
+use Rattle.arch.specs.Answers.{Response}
 use Rattle.arch.specs.Registers.{minus, handler, right_of, on_process, sp, reg, locked_core}
 use Rattle.arch.specs.Status.{frame_status}
 use Rattle.arch.specs.declared.answers.Answer.TheVariants.{Entered, Locked}
-use Rattle.arch.specs.declared.answers.Response.{Response}
-use Rattle.arch.specs.declared.answers.Response.TheVariants.{Stepped}
+use Rattle.arch.specs.declared.answers.Completed.TheVariants.{Stepped}
 use Rattle.arch.specs.declared.registers.Registers.{Registers}
 
 -- the frame lies below the stack pointer, with bit 2 of its address clear
@@ -42,8 +42,8 @@ abbrev pub read_vector : ℕ → (Reply → Program (Response × Registers)) →
 read_vector n next = ask (reading Word Privileged (4 * n)) 0 next
 
 abbrev pub or_lock : Registers → ℕ → Reply → Program (Response × Registers)
-or_lock s n (Ok vector) = done (Stepped (Entered n), entered s n vector)
-or_lock s n (Err f) = done (Stepped (Locked f), locked_core s)
+or_lock s n (Ok vector) = done (Ok (Stepped (Entered n)), entered s n vector)
+or_lock s n (Err f) = done (Ok (Stepped (Locked f)), locked_core s)
 
 -- the vector of NMI or HardFault
 abbrev pub take_last : Registers → ℕ → Program (Response × Registers)
@@ -51,7 +51,7 @@ take_last s n = read_vector n (or_lock s n)
 
 -- another exception gives way to HardFault, and stays pending
 abbrev pub or_hard_fault : Registers → ℕ → Reply → Program (Response × Registers)
-or_hard_fault s n (Ok vector) = done (Stepped (Entered n), entered s n vector)
+or_hard_fault s n (Ok vector) = done (Ok (Stepped (Entered n)), entered s n vector)
 or_hard_fault s n (Err f) = take_last s 3
 
 abbrev pub take_other : Registers → ℕ → Option Fault → Program (Response × Registers)

@@ -1,9 +1,10 @@
 -- What every core keeps, and what no list of calls can break.
-use Rattle.std.specs.Prelude.{◌≡◌, ℕ, ◌+◌, ◌%◌, true, false, ◌⊎◌, List, [], ◌∷◌, ◌++◌, Ok, ◌==◌, count_ones, nat_eq}
+use Rattle.std.specs.Prelude.{◌≡◌, ℕ, ◌+◌, ◌%◌, true, false, ◌⊎◌, List, [], ◌∷◌, ◌++◌, Ok, ◌==◌, count_ones, nat_eq, Err}
 use Rattle.bus.specs.Isolation.{Unwritable, Alike, UnprivilegedOnly}
 use Rattle.bus.specs.Program.{World, run}
 use Rattle.word.specs.Fields.{bit_of}
 use Rattle.thumb.specs.declared.instructions.SpecialRegister.{SpecialRegister}
+use Rattle.arch.specs.Answers.{Response}
 use Rattle.arch.specs.Machine.{Machine, response, after_call, after_calls, responses, entry, return, how_many}
 use Rattle.arch.specs.Registers.{handler, privileged, pend, locked_core}
 use Rattle.arch.specs.Return.{forced_thread, exception_return}
@@ -13,8 +14,7 @@ use Rattle.arch.specs.declared.answers.Answer.{Answer}
 use Rattle.arch.specs.declared.answers.Answer.TheVariants.{Ran, Entered, Returned, Faulted, Locked}
 use Rattle.arch.specs.declared.answers.Call.{Call}
 use Rattle.arch.specs.declared.answers.Call.TheVariants.{Step}
-use Rattle.arch.specs.declared.answers.Response.{Response}
-use Rattle.arch.specs.declared.answers.Response.TheVariants.{Stepped, Accepted, Refused}
+use Rattle.arch.specs.declared.answers.Completed.TheVariants.{Stepped, Accepted}
 use Rattle.arch.specs.declared.registers.Registers.{Registers}
 
 -- what every core keeps: an even PC, stack pointers that are multiples of 4, Thread mode exactly when no exception is active, and else a current exception that is active
@@ -35,9 +35,9 @@ KeptBy (Locked f) s t = t ≡ locked_core s
 
 -- and what a call that is turned away leaves: all of them
 abbrev pub Kept : Response → Registers → Registers → Type 0
-Kept (Stepped answer) s t = KeptBy answer s t
-Kept Accepted s t = Unit {0}
-Kept (Refused refusal) s t = t ≡ s
+Kept (Ok (Stepped answer)) s t = KeptBy answer s t
+Kept (Ok Accepted) s t = Unit {0}
+Kept (Err refusal) s t = t ≡ s
 
 -- every call leaves a sound core sound, and keeps what it must keep
 pub record Faithful (c : Call) (m : Machine) : Type 0 where

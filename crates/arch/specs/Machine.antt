@@ -1,13 +1,13 @@
 -- A machine: a core with its bus, under a list of calls.
-use Rattle.std.specs.Prelude.{ℕ, ◌+◌, Bool, true, false, List, [], ◌∷◌}
+use Rattle.std.specs.Prelude.{ℕ, ◌+◌, Bool, true, false, List, [], ◌∷◌, Ok, Err}
 use Rattle.bus.specs.Program.{World, run}
 use Rattle.word.specs.Sums.{one_if}
+use Rattle.arch.specs.Answers.{Response}
 use Rattle.arch.specs.Step.{answer_to}
 use Rattle.arch.specs.declared.answers.Answer.{Answer}
 use Rattle.arch.specs.declared.answers.Answer.TheVariants.{Ran, Entered, Returned, Faulted, Locked}
 use Rattle.arch.specs.declared.answers.Call.{Call}
-use Rattle.arch.specs.declared.answers.Response.{Response}
-use Rattle.arch.specs.declared.answers.Response.TheVariants.{Stepped, Accepted, Refused}
+use Rattle.arch.specs.declared.answers.Completed.TheVariants.{Stepped, Accepted}
 use Rattle.arch.specs.declared.registers.Registers.{Registers}
 
 pub record Machine : Type 0 where
@@ -46,14 +46,14 @@ is_return (Locked f) = false
 
 -- a step that took up an exception, or that returned from one
 abbrev pub entry : Response → Bool
-entry (Stepped answer) = is_entry answer
-entry Accepted = false
-entry (Refused refusal) = false
+entry (Ok (Stepped answer)) = is_entry answer
+entry (Ok Accepted) = false
+entry (Err refusal) = false
 
 abbrev pub return : Response → Bool
-return (Stepped answer) = is_return answer
-return Accepted = false
-return (Refused refusal) = false
+return (Ok (Stepped answer)) = is_return answer
+return (Ok Accepted) = false
+return (Err refusal) = false
 
 -- how many of the responses pass a test
 unfoldable pub how_many : (Response → Bool) → List Response → ℕ

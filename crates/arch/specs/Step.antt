@@ -15,6 +15,7 @@ use Rattle.thumb.specs.declared.instructions.Instruction.TheVariants.{Basic, Dat
 use Rattle.thumb.specs.declared.instructions.Refusal.{Refusal}
 use Rattle.thumb.specs.declared.instructions.Refusal.TheVariants.{Undefined as undefined, Unpredictable as unpredictable}
 use Rattle.arch.specs.Accesses.{Attempt, then, fetch, read}
+use Rattle.arch.specs.Answers.{Response}
 use Rattle.arch.specs.Branches.{Done, ran, returned, branch}
 use Rattle.arch.specs.Data.{basic_result, operation_result, unary_value, special_result}
 use Rattle.arch.specs.Entry.{take_up}
@@ -26,8 +27,7 @@ use Rattle.arch.specs.Transfers.{address_of, transfer, multiple}
 use Rattle.arch.specs.declared.answers.Answer.TheVariants.{Ran, Returned, Faulted, Locked}
 use Rattle.arch.specs.declared.answers.Call.{Call}
 use Rattle.arch.specs.declared.answers.Call.TheVariants.{Step, Raise, Arm, Rank}
-use Rattle.arch.specs.declared.answers.Response.{Response}
-use Rattle.arch.specs.declared.answers.Response.TheVariants.{Stepped, Accepted, Refused}
+use Rattle.arch.specs.declared.answers.Completed.TheVariants.{Stepped, Accepted}
 use Rattle.arch.specs.declared.registers.Registers.{Registers}
 
 -- an instruction of k bytes
@@ -61,15 +61,15 @@ instruction s = instruction_if s.thumb s
 
 -- a fault keeps the registers: HardFault is pending, or below priority 0 the core locks
 abbrev pub settle : Registers → Result Done Fault → Response × Registers
-settle s (Ok (ran after)) = (Stepped Ran, after)
-settle s (Ok (returned after)) = (Stepped Returned, after)
+settle s (Ok (ran after)) = (Ok (Stepped Ran), after)
+settle s (Ok (returned after)) = (Ok (Stepped Returned), after)
 settle s (Err f) =
     let low : Bool = int_lt (execution_priority s) (pos 0) in
-    (Stepped (cond low (Locked f) (Faulted f)), cond low (locked_core s) (pend s 3))
+    (Ok (Stepped (cond low (Locked f) (Faulted f))), cond low (locked_core s) (pend s 3))
 
 -- a step begins from the lock mark and the exception to be taken up
 abbrev pub begin : Bool → Option ℕ → Registers → Program (Response × Registers)
-begin true n s = done (Refused CoreLocked, s)
+begin true n s = done (Err CoreLocked, s)
 begin false (Some n) s = take_up s n
 begin false None s = bind (instruction s) (λ r. done (settle s r))
 
@@ -89,7 +89,7 @@ abbrev pub rankable : ℕ → Bool
 rankable n = n == 11 || (n == 14 || (n == 15 || external n))
 
 abbrev pub accept_if : Bool → Response → Registers → Registers → Response × Registers
-accept_if true refusal s after = (Accepted, after)
+accept_if true refusal s after = (Ok Accepted, after)
 accept_if false refusal s after = (refusal, s)
 
 abbrev pub armed_set : Bool → ℕ → ℕ → ℕ
@@ -97,13 +97,13 @@ armed_set true set n = set_with 64 set n
 armed_set false set n = set_without set n
 
 abbrev pub raised : Registers → ℕ → Response × Registers
-raised s n = accept_if (raisable n) (Refused OutOfRange) s (pend s n)
+raised s n = accept_if (raisable n) (Err OutOfRange) s (pend s n)
 
 abbrev pub armed : Registers → ℕ → Bool → Response × Registers
-armed s n on = accept_if (external n) (Refused OutOfRange) s (with_exceptions s (record { pending = s.exceptions.pending; active = s.exceptions.active; armed = armed_set on s.exceptions.armed n; ranks = s.exceptions.ranks }))
+armed s n on = accept_if (external n) (Err OutOfRange) s (with_exceptions s (record { pending = s.exceptions.pending; active = s.exceptions.active; armed = armed_set on s.exceptions.armed n; ranks = s.exceptions.ranks }))
 
 abbrev pub ranked : Registers → ℕ → ℕ → Response × Registers
-ranked s n k = accept_if (rankable n && nat_le k 3) (Refused (cond (rankable n) RankTooHigh OutOfRange)) s (with_exceptions s (record { pending = s.exceptions.pending; active = s.exceptions.active; armed = s.exceptions.armed; ranks = set s.exceptions.ranks n k }))
+ranked s n k = accept_if (rankable n && nat_le k 3) (Err (cond (rankable n) RankTooHigh OutOfRange)) s (with_exceptions s (record { pending = s.exceptions.pending; active = s.exceptions.active; armed = s.exceptions.armed; ranks = set s.exceptions.ranks n k }))
 
 unfoldable pub answer_to : Call → Registers → Program (Response × Registers)
 answer_to Step s = step s

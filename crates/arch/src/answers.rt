@@ -4,7 +4,7 @@ ghost use Rattle.arch.specs.Answers.{answer_number};
 
 use bus::{Fault, Refusal};
 
-#[derive(Clone, Copy)]
+#[derive(Clone, Copy, Debug, PartialEq, Eq)]
 pub enum Call {
     Step,
     // make an exception pending
@@ -16,7 +16,7 @@ pub enum Call {
 }
 
 // What a step came to.
-#[derive(Clone, Copy)]
+#[derive(Clone, Copy, Debug, PartialEq, Eq)]
 pub enum Answer {
     // an instruction was carried out
     Ran,
@@ -44,12 +44,13 @@ impl Answer {
     }
 }
 
-// What a call came to.
-#[derive(Clone, Copy)]
-pub enum Response {
+// What a call came to that was not turned away.
+#[derive(Clone, Copy, Debug, PartialEq, Eq)]
+pub enum Completed {
     Stepped(Answer),
     // the host's call was carried out
     Accepted,
-    // turned away, nothing changed
-    Refused(Refusal),
 }
+
+// What a call came to. One that is turned away has changed nothing.
+pub type Response = Result<Completed, Refusal>;

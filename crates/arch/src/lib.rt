@@ -5,7 +5,7 @@ mod answers;
 mod registers;
 mod theorems;
 
-pub use answers::{Answer, Call, Response};
+pub use answers::{Answer, Call, Completed, Response};
 pub use registers::{Control, Exceptions, Frame, Registers};
 pub use theorems::{
     calls_are_sound, frames_are_unprivileged, machines_are_isolated, special_registers_are_hidden,

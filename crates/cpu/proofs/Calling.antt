@@ -2,11 +2,11 @@
 use Rattle.std.proofs.Common.{◌≡◌, ℕ, ◌+◌, ◌<◌, ◌≤◌, List, [], ◌∷◌, ◌++◌, length, get_or, drop, sym, refl, ap, ◌∙◌, ap₂, append_assoc}
 use Rattle.std.proofs.lemmas.List.{append-nil, drop_all, drop_more}
 use Rattle.bus.specs.Program.{World, run}
+use Rattle.arch.specs.Answers.{Response}
 use Rattle.arch.specs.Machine.{Machine, after_call, after_calls, responses}
 use Rattle.arch.specs.Step.{answer_to}
 use Rattle.arch.specs.declared.answers.Call.{Call}
 use Rattle.arch.specs.declared.answers.Call.TheVariants.{Step}
-use Rattle.arch.specs.declared.answers.Response.{Response}
 use Rattle.arch.specs.declared.registers.Registers.{Registers}
 use Rattle.cpu.specs.Performed.{machine}
 

@@ -3,10 +3,10 @@ use Rattle.std.proofs.Common.{◌≡◌, ◌%◌, Bool, true, false, not, ◌||�
 use Rattle.std.proofs.lemmas.Bool.{false≢true}
 use Rattle.bus.specs.Program.{World, run}
 use Rattle.word.specs.Fields.{bit_of}
+use Rattle.arch.specs.Answers.{Response}
 use Rattle.arch.specs.Laws.{Sound, Kept}
 use Rattle.arch.specs.Step.{step, answer_to}
 use Rattle.arch.specs.declared.answers.Call.TheVariants.{Step}
-use Rattle.arch.specs.declared.answers.Response.{Response}
 use Rattle.arch.specs.declared.registers.Registers.{Registers}
 use Rattle.arch.proofs.Isolating.{soundness}
 use Rattle.cpu.specs.declared.processor.Core.{Core}

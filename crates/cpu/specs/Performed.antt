@@ -2,11 +2,11 @@
 use Rattle.std.specs.Prelude.{◌≡◌, List, Ok, Err, Result}
 use Rattle.bus.specs.Program.{World, run}
 use Rattle.bus.specs.declared.fault.Fault.{Fault}
+use Rattle.arch.specs.Answers.{Response}
 use Rattle.arch.specs.Laws.{Isolation}
 use Rattle.arch.specs.Machine.{Machine, after_calls, responses}
 use Rattle.arch.specs.Step.{reset}
 use Rattle.arch.specs.declared.answers.Call.{Call}
-use Rattle.arch.specs.declared.answers.Response.{Response}
 use Rattle.arch.specs.declared.registers.Registers.{Registers}
 use Rattle.cpu.specs.declared.sequence.Failure.{Failure}
 use Rattle.cpu.specs.declared.sequence.Failure.TheVariants.{OutOfMemory, ResetRefused}

@@ -1,5 +1,6 @@
 -- What the calls hand back, as the definitions have it.
-use Rattle.std.specs.Prelude.{Ok, Err, Result}
+use Rattle.std.specs.Prelude.{Result}
+use Rattle.std.specs.Result.{result_map_both}
 use Rattle.bus.specs.declared.fault.Cause.{Cause}
 use Rattle.bus.specs.declared.fault.Cause.TheVariants.{Undefined as undefined, Unpredictable as unpredictable}
 use Rattle.bus.specs.declared.refusal.Refusal.{Refusal}
@@ -7,8 +8,8 @@ use Rattle.thumb.specs.declared.instructions.Refusal.{Refusal as Undecoded}
 use Rattle.thumb.specs.declared.instructions.Refusal.TheVariants.{Undefined, Unpredictable}
 use Rattle.arch.specs.declared.answers.Answer.{Answer}
 use Rattle.arch.specs.declared.answers.Answer.TheVariants.{Ran as ran, Returned as returned}
-use Rattle.arch.specs.declared.answers.Response.{Response}
-use Rattle.arch.specs.declared.answers.Response.TheVariants.{Stepped, Accepted, Refused}
+use Rattle.arch.specs.Answers.{Response}
+use Rattle.arch.specs.declared.answers.Completed.TheVariants.{Stepped, Accepted}
 use Rattle.exec.specs.declared.flow.Flow.{Flow}
 use Rattle.exec.specs.declared.flow.Flow.TheVariants.{Ran, Returned}
 
@@ -24,10 +25,8 @@ answer_of Returned = returned
 
 -- a step's
 abbrev pub stepped : Result Answer Refusal → Response
-stepped (Ok answer) = Stepped answer
-stepped (Err refusal) = Refused refusal
+stepped r = result_map_both Stepped (λ refusal. refusal) r
 
 -- another call's
 abbrev pub accepted : Result (Unit {0}) Refusal → Response
-accepted (Ok u) = Accepted
-accepted (Err refusal) = Refused refusal
+accepted r = result_map_both (λ _. Accepted) (λ refusal. refusal) r

@@ -1,10 +1,10 @@
 // Taking up an exception.
-ghost use Rattle.std.specs.Prelude.{◌≡◌, None};
-ghost use Rattle.bus.specs.Program.{run, world_of};
+ghost use Rattle.std.specs.Prelude.{◌≡◌, None, Ok};
+ghost use Rattle.bus.specs.Made.{Makes};
 ghost use Rattle.arch.specs.Accesses.{try_words};
 ghost use Rattle.arch.specs.Entry.{frame_of, frame_words as frame_words_of, return_value as return_value_of, entered, is_last, stack_frame as stack_frame_of, take_last as take_last_of, take_other as take_other_of, take_up as take_up_of};
 ghost use Rattle.arch.specs.Status.{frame_status};
-ghost use Rattle.arch.specs.declared.answers.Response.TheVariants.{Stepped};
+ghost use Rattle.arch.specs.declared.answers.Completed.TheVariants.{Stepped};
 ghost use Rattle.cpu.specs.Stacked.{first_refusal};
 
 use arch::{Answer, Registers};
@@ -51,8 +51,7 @@ fn note(first: Option<Fault>, reply: Result<(), Fault>) -> Option<Fault>
 
 // All the words from `x` upward, whatever is refused; the first refusal.
 fn stack_words<B: Bus>(bus: &mut B, right: Right, words: [u32; 8], x: u32) -> Option<Fault>
-    ensures runs { run (try_words right None words x) (world_of B.Bus.bytes B.Bus.verdict bus.old) ≡ (result, world_of B.Bus.bytes B.Bus.verdict bus.new) }
-    ensures settled { B.Bus.settings bus.new ≡ B.Bus.settings bus.old }
+    ensures { Makes B.Bus bus.old bus.new (try_words right None words x) result }
 {
     let mut at = x;
     let mut first = None;
@@ -97,8 +96,7 @@ fn enter(r: &mut Registers, number: u8, vector: u32)
 
 // NMI and HardFault have nothing in their place: a refused vector locks the core.
 fn take_last<B: Bus>(r: &mut Registers, bus: &mut B, number: u8) -> Answer
-    ensures runs { run (take_last_of r.old number) (world_of B.Bus.bytes B.Bus.verdict bus.old) ≡ ((Stepped result, r.new), world_of B.Bus.bytes B.Bus.verdict bus.new) }
-    ensures settled { B.Bus.settings bus.new ≡ B.Bus.settings bus.old }
+    ensures { Makes B.Bus bus.old bus.new (take_last_of r.old number) (Ok (Stepped result), r.new) }
 {
     match bus.read(Width::Word, Right::Privileged, 4 * u32::from(number)) {
         Ok(vector) => {
@@ -114,8 +112,7 @@ fn take_last<B: Bus>(r: &mut Registers, bus: &mut B, number: u8) -> Answer
 
 // Another exception gives way to HardFault where its vector or a word of its frame is refused.
 fn take_other<B: Bus>(r: &mut Registers, bus: &mut B, number: u8, refused: Option<Fault>) -> Answer
-    ensures runs { run (take_other_of r.old number refused) (world_of B.Bus.bytes B.Bus.verdict bus.old) ≡ ((Stepped result, r.new), world_of B.Bus.bytes B.Bus.verdict bus.new) }
-    ensures settled { B.Bus.settings bus.new ≡ B.Bus.settings bus.old }
+    ensures { Makes B.Bus bus.old bus.new (take_other_of r.old number refused) (Ok (Stepped result), r.new) }
 {
     if refused.is_some() {
         return take_last(r, bus, HARD_FAULT);
@@ -137,15 +134,13 @@ fn is_last(number: u8) -> bool
 
 // The frame goes with the right of the interrupted mode, all of it, whatever is refused.
 fn stack_frame<B: Bus>(r: &Registers, bus: &mut B) -> Option<Fault>
-    ensures runs { run (stack_frame_of r.now) (world_of B.Bus.bytes B.Bus.verdict bus.old) ≡ (result, world_of B.Bus.bytes B.Bus.verdict bus.new) }
-    ensures settled { B.Bus.settings bus.new ≡ B.Bus.settings bus.old }
+    ensures { Makes B.Bus bus.old bus.new (stack_frame_of r.now) result }
 {
     stack_words(bus, state::right(r), frame_words(r), frame_address(r))
 }
 
 pub fn take_up<B: Bus>(r: &mut Registers, bus: &mut B, number: u8) -> Answer
-    ensures runs { run (take_up_of r.old number) (world_of B.Bus.bytes B.Bus.verdict bus.old) ≡ ((Stepped result, r.new), world_of B.Bus.bytes B.Bus.verdict bus.new) }
-    ensures settled { B.Bus.settings bus.new ≡ B.Bus.settings bus.old }
+    ensures { Makes B.Bus bus.old bus.new (take_up_of r.old number) (Ok (Stepped result), r.new) }
 {
     let refused = stack_frame(r, bus);
     if is_last(number) {

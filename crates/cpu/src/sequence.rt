@@ -1,6 +1,6 @@
 // A list of calls on a machine that is reset first.
 ghost use Rattle.std.specs.Prelude.{◌≡◌, MatchResult};
-ghost use Rattle.bus.specs.Program.{world_of};
+ghost use Rattle.bus.specs.Made.{world};
 ghost use Rattle.cpu.specs.Performed.{Performed, Unmade, machine};
 
 use crate::processor::Core;
@@ -24,7 +24,7 @@ pub fn perform<B: Bus>(
     bus: &mut B,
     calls: &[Call],
 ) -> Result<Vec<Response>, Failure>
-    ensures performed { MatchResult result (λ answers. Performed answers.items calls.now (machine core.old.registers (world_of B.Bus.bytes B.Bus.verdict bus.old)) (machine core.new.registers (world_of B.Bus.bytes B.Bus.verdict bus.new))) (λ failure. Unmade failure (machine core.old.registers (world_of B.Bus.bytes B.Bus.verdict bus.old)) (machine core.new.registers (world_of B.Bus.bytes B.Bus.verdict bus.new))) }
+    ensures performed { MatchResult result (λ answers. Performed answers.items calls.now (machine core.old.registers (world B.Bus bus.old)) (machine core.new.registers (world B.Bus bus.new))) (λ failure. Unmade failure (machine core.old.registers (world B.Bus bus.old)) (machine core.new.registers (world B.Bus bus.new))) }
     ensures settled { B.Bus.settings bus.new ≡ B.Bus.settings bus.old }
 {
     let Ok(mut answers) = Vec::with_capacity(heap, calls.len()) else {

@@ -1,9 +1,10 @@
 // One step: an exception is taken up, or an instruction runs.
-ghost use Rattle.std.specs.Prelude.{◌≡◌, Err};
-ghost use Rattle.bus.specs.Program.{run, bind, done, world_of};
+ghost use Rattle.std.specs.Prelude.{◌≡◌, Err, Ok};
+ghost use Rattle.bus.specs.Made.{Makes};
+ghost use Rattle.bus.specs.Program.{bind, done};
 ghost use Rattle.arch.specs.Step.{execute as execute_of, perform_decoded, instruction as instruction_of, settle, step as step_of};
-ghost use Rattle.arch.specs.declared.answers.Response.TheVariants.{Stepped};
-ghost use Rattle.exec.specs.Outcome.{outcome, KeptAt};
+ghost use Rattle.arch.specs.declared.answers.Completed.TheVariants.{Stepped};
+ghost use Rattle.exec.specs.Outcome.{Executes, outcome};
 ghost use Rattle.thumb.specs.Decoded.{decoded};
 ghost use Rattle.cpu.specs.Responses.{stepped, answer_of, cause_of};
 
@@ -20,9 +21,7 @@ fn execute<B: Bus>(
     instruction: Instruction,
     size: u32,
 ) -> Result<Flow, Fault>
-    ensures runs { run (execute_of instruction size r.old) (world_of B.Bus.bytes B.Bus.verdict bus.old) ≡ (outcome result r.new, world_of B.Bus.bytes B.Bus.verdict bus.new) }
-    ensures kept { KeptAt result r.old r.new }
-    ensures settled { B.Bus.settings bus.new ≡ B.Bus.settings bus.old }
+    ensures { Executes B.Bus bus.old bus.new r.old r.new (execute_of instruction size r.old) outcome result }
 {
     match instruction {
         Instruction::Basic(basic) => {
@@ -66,9 +65,7 @@ fn decode_and_execute<B: Bus>(
     second: u16,
     size: u32,
 ) -> Result<Flow, Fault>
-    ensures runs { run (perform_decoded (decoded first second) size r.old) (world_of B.Bus.bytes B.Bus.verdict bus.old) ≡ (outcome result r.new, world_of B.Bus.bytes B.Bus.verdict bus.new) }
-    ensures kept { KeptAt result r.old r.new }
-    ensures settled { B.Bus.settings bus.new ≡ B.Bus.settings bus.old }
+    ensures { Executes B.Bus bus.old bus.new r.old r.new (perform_decoded (decoded first second) size r.old) outcome result }
 {
     match thumb::decode(first, second) {
         Ok(instruction) => execute(r, bus, instruction, size),
@@ -78,9 +75,7 @@ fn decode_and_execute<B: Bus>(
 
 // The instruction at PC; with T clear there is none.
 fn instruction<B: Bus>(r: &mut Registers, bus: &mut B) -> Result<Flow, Fault>
-    ensures runs { run (instruction_of r.old) (world_of B.Bus.bytes B.Bus.verdict bus.old) ≡ (outcome result r.new, world_of B.Bus.bytes B.Bus.verdict bus.new) }
-    ensures kept { KeptAt result r.old r.new }
-    ensures settled { B.Bus.settings bus.new ≡ B.Bus.settings bus.old }
+    ensures { Executes B.Bus bus.old bus.new r.old r.new (instruction_of r.old) outcome result }
 {
     if !r.thumb {
         return Err(exec::fault(Cause::NotThumb, r));
@@ -96,7 +91,7 @@ fn instruction<B: Bus>(r: &mut Registers, bus: &mut B) -> Result<Flow, Fault>
 
 // A fault keeps the registers: HardFault is pending, or below priority 0 the core locks.
 fn settle_fault(r: &mut Registers, fault: Fault) -> Answer
-    ensures { (Stepped result, r.new) ≡ settle r.old (Err fault) }
+    ensures { (Ok (Stepped result), r.new) ≡ settle r.old (Err fault) }
 {
     if state::execution_priority(r) < 0 {
         r.locked = true;
@@ -116,8 +111,7 @@ fn answer(flow: Flow) -> Answer
 }
 
 fn run_instruction<B: Bus>(r: &mut Registers, bus: &mut B) -> Answer
-    ensures runs { run (bind (instruction_of r.old) (λ y. done (settle r.old y))) (world_of B.Bus.bytes B.Bus.verdict bus.old) ≡ ((Stepped result, r.new), world_of B.Bus.bytes B.Bus.verdict bus.new) }
-    ensures settled { B.Bus.settings bus.new ≡ B.Bus.settings bus.old }
+    ensures { Makes B.Bus bus.old bus.new (bind (instruction_of r.old) (λ y. done (settle r.old y))) (Ok (Stepped result), r.new) }
 {
     match instruction(r, bus) {
         Ok(flow) => answer(flow),
@@ -126,8 +120,7 @@ fn run_instruction<B: Bus>(r: &mut Registers, bus: &mut B) -> Answer
 }
 
 pub fn step<B: Bus>(r: &mut Registers, bus: &mut B) -> Result<Answer, Refusal>
-    ensures runs { run (step_of r.old) (world_of B.Bus.bytes B.Bus.verdict bus.old) ≡ ((stepped result, r.new), world_of B.Bus.bytes B.Bus.verdict bus.new) }
-    ensures settled { B.Bus.settings bus.new ≡ B.Bus.settings bus.old }
+    ensures { Makes B.Bus bus.old bus.new (step_of r.old) (stepped result, r.new) }
 {
     match (r.locked, state::chosen(r)) {
         (true, _) => Err(Refusal::CoreLocked),

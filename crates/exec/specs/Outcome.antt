@@ -1,6 +1,10 @@
 -- What the code of an instruction hands back, as the definition has it.
 use Rattle.std.specs.Prelude.{◌≡◌, Ok, Err, Result}
+use Rattle.bus.specs.Made.{world}
+use Rattle.bus.specs.Program.{run}
 use Rattle.bus.specs.declared.fault.Fault.{Fault}
+use Rattle.bus.specs.declared.interface.Bus.{Ghosts as Bus}
+use Rattle.arch.specs.Accesses.{Attempt}
 use Rattle.arch.specs.Branches.{Done, ran, returned}
 use Rattle.arch.specs.declared.registers.Registers.{Registers}
 use Rattle.exec.specs.declared.flow.Flow.{Flow}
@@ -24,3 +28,9 @@ KeptAt (Err f) s t = t ≡ s
 abbrev pub returned_to : Result (Unit {0}) Fault → Registers → Result Registers Fault
 returned_to (Ok u) t = Ok t
 returned_to (Err f) t = Err f
+
+-- from `before` to `after` the accesses of the program are made and no others, they come to what the result and the registers say, a refusal leaves the registers, and the settings of the bus stay
+pub record Executes {S A R : Type 0} (bus : Bus S) (before after : S) (s t : Registers) (program : Attempt A) (told : Result R Fault → Registers → Result A Fault) (result : Result R Fault) : Type 0 where
+  pub runs : run program (world bus before) ≡ (told result t, world bus after)
+  pub kept : KeptAt result s t
+  pub settled : bus.settings after ≡ bus.settings before

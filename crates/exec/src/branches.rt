@@ -1,8 +1,7 @@
 // Branches.
 ghost use Rattle.std.specs.Prelude.{◌≡◌, true};
-ghost use Rattle.bus.specs.Program.{run, world_of};
 ghost use Rattle.arch.specs.Branches.{returns_or_branches, bx_write_pc, branched_if, branch as branch_of, link as link_of};
-ghost use Rattle.exec.specs.Outcome.{outcome, KeptAt};
+ghost use Rattle.exec.specs.Outcome.{Executes, outcome};
 
 use crate::flow::Flow;
 use crate::returns::exception_return;
@@ -11,9 +10,7 @@ use bus::{Bus, Fault};
 use thumb::instructions::Branch;
 
 fn come_back<B: Bus>(r: &mut Registers, bus: &mut B, exc: u32) -> Result<Flow, Fault>
-    ensures runs { run (returns_or_branches true r.old exc) (world_of B.Bus.bytes B.Bus.verdict bus.old) ≡ (outcome result r.new, world_of B.Bus.bytes B.Bus.verdict bus.new) }
-    ensures kept { KeptAt result r.old r.new }
-    ensures settled { B.Bus.settings bus.new ≡ B.Bus.settings bus.old }
+    ensures { Executes B.Bus bus.old bus.new r.old r.new (returns_or_branches true r.old exc) outcome result }
 {
     exception_return(r, bus, exc)?;
     Ok(Flow::Returned)
@@ -21,9 +18,7 @@ fn come_back<B: Bus>(r: &mut Registers, bus: &mut B, exc: u32) -> Result<Flow, F
 
 // A branch to what BX and POP give PC: in Handler mode 0xFxxxxxxx is a return.
 pub fn bx_write_pc<B: Bus>(r: &mut Registers, bus: &mut B, address: u32) -> Result<Flow, Fault>
-    ensures runs { run (bx_write_pc r.old address) (world_of B.Bus.bytes B.Bus.verdict bus.old) ≡ (outcome result r.new, world_of B.Bus.bytes B.Bus.verdict bus.new) }
-    ensures kept { KeptAt result r.old r.new }
-    ensures settled { B.Bus.settings bus.new ≡ B.Bus.settings bus.old }
+    ensures { Executes B.Bus bus.old bus.new r.old r.new (bx_write_pc r.old address) outcome result }
 {
     if state::handler(r) && word::field(address, 28, 4) == 15 {
         return come_back(r, bus, address);
@@ -50,9 +45,7 @@ fn branch_if(r: &mut Registers, taken: bool, offset: u32)
 }
 
 pub fn branch<B: Bus>(r: &mut Registers, bus: &mut B, instruction: Branch) -> Result<Flow, Fault>
-    ensures runs { run (branch_of instruction r.old) (world_of B.Bus.bytes B.Bus.verdict bus.old) ≡ (outcome result r.new, world_of B.Bus.bytes B.Bus.verdict bus.new) }
-    ensures kept { KeptAt result r.old r.new }
-    ensures settled { B.Bus.settings bus.new ≡ B.Bus.settings bus.old }
+    ensures { Executes B.Bus bus.old bus.new r.old r.new (branch_of instruction r.old) outcome result }
 {
     match instruction {
         Branch::B { offset } => state::branch_to(r, state::register(r, 15).wrapping_add(offset)),

@@ -1,5 +1,5 @@
 // How an instruction ends.
-#[derive(Clone, Copy)]
+#[derive(Clone, Copy, Debug, PartialEq, Eq)]
 pub enum Flow {
     Ran,
     Returned,

@@ -1,11 +1,11 @@
 // Loads and stores of several registers.
 ghost use Rattle.std.specs.Prelude.{◌≡◌, ◌+◌, ◌*◌, ◌≤◌};
-ghost use Rattle.bus.specs.Program.{run, world_of};
+ghost use Rattle.bus.specs.Made.{Makes};
 ghost use Rattle.word.specs.Sums.{one_if};
 ghost use Rattle.arch.specs.Registers.{minus, sp};
 ghost use Rattle.arch.specs.Transfers.{registers_of, store_registers, load_registers, span as span_of, multiple as multiple_of};
 ghost use Rattle.exec.specs.Lists.{store_next, load_next, loaded_to, link_pushed, pc_popped};
-ghost use Rattle.exec.specs.Outcome.{outcome, returned_to, KeptAt};
+ghost use Rattle.exec.specs.Outcome.{Executes, outcome, returned_to};
 
 use crate::branches::bx_write_pc;
 use crate::flow::Flow;
@@ -23,8 +23,7 @@ fn span(list: u8) -> u32
 
 // Register `i` to the word at `x`, if it is in the list; the address after it.
 fn store_next<B: Bus>(r: &Registers, bus: &mut B, list: u8, i: u8, x: u32) -> Result<u32, Fault>
-    ensures runs { run (store_next r.now list i x) (world_of B.Bus.bytes B.Bus.verdict bus.old) ≡ (result, world_of B.Bus.bytes B.Bus.verdict bus.new) }
-    ensures settled { B.Bus.settings bus.new ≡ B.Bus.settings bus.old }
+    ensures { Makes B.Bus bus.old bus.new (store_next r.now list i x) result }
 {
     if !word::bit(u32::from(list), u32::from(i)) {
         return Ok(x);
@@ -35,8 +34,7 @@ fn store_next<B: Bus>(r: &Registers, bus: &mut B, list: u8, i: u8, x: u32) -> Re
 
 // The registers of the list to the words from `x` upward; the address after them.
 fn store_registers<B: Bus>(r: &Registers, bus: &mut B, list: u8, x: u32) -> Result<u32, Fault>
-    ensures runs { run (store_registers r.now (registers_of list) x) (world_of B.Bus.bytes B.Bus.verdict bus.old) ≡ (result, world_of B.Bus.bytes B.Bus.verdict bus.new) }
-    ensures settled { B.Bus.settings bus.new ≡ B.Bus.settings bus.old }
+    ensures { Makes B.Bus bus.old bus.new (store_registers r.now (registers_of list) x) result }
 {
     let mut at = x;
     for i in 0..8u8 {
@@ -54,8 +52,7 @@ fn load_next<B: Bus>(
     i: u8,
     x: u32,
 ) -> Result<u32, Fault>
-    ensures runs { run (load_next right r.old list i x) (world_of B.Bus.bytes B.Bus.verdict bus.old) ≡ (loaded_to result r.new, world_of B.Bus.bytes B.Bus.verdict bus.new) }
-    ensures settled { B.Bus.settings bus.new ≡ B.Bus.settings bus.old }
+    ensures { Makes B.Bus bus.old bus.new (load_next right r.old list i x) (loaded_to result r.new) }
 {
     if !word::bit(u32::from(list), u32::from(i)) {
         return Ok(x);
@@ -73,8 +70,7 @@ fn load_registers<B: Bus>(
     list: u8,
     x: u32,
 ) -> Result<(), Fault>
-    ensures runs { run (load_registers right r.old (registers_of list) x) (world_of B.Bus.bytes B.Bus.verdict bus.old) ≡ (returned_to result r.new, world_of B.Bus.bytes B.Bus.verdict bus.new) }
-    ensures settled { B.Bus.settings bus.new ≡ B.Bus.settings bus.old }
+    ensures { Makes B.Bus bus.old bus.new (load_registers right r.old (registers_of list) x) (returned_to result r.new) }
 {
     let mut at = x;
     for i in 0..8u8 {
@@ -84,9 +80,7 @@ fn load_registers<B: Bus>(
 }
 
 fn store_multiple<B: Bus>(r: &mut Registers, bus: &mut B, n: u8, list: u8) -> Result<Flow, Fault>
-    ensures runs { run (multiple_of (Multiple.Stm n list) r.old) (world_of B.Bus.bytes B.Bus.verdict bus.old) ≡ (outcome result r.new, world_of B.Bus.bytes B.Bus.verdict bus.new) }
-    ensures kept { KeptAt result r.old r.new }
-    ensures settled { B.Bus.settings bus.new ≡ B.Bus.settings bus.old }
+    ensures { Executes B.Bus bus.old bus.new r.old r.new (multiple_of (Multiple.Stm n list) r.old) outcome result }
 {
     let base = state::register(r, n);
     store_registers(r, bus, list, base)?;
@@ -97,8 +91,7 @@ fn store_multiple<B: Bus>(r: &mut Registers, bus: &mut B, n: u8, list: u8) -> Re
 
 // LDM; a refused word leaves what was loaded before it.
 fn load_multiple<B: Bus>(r: &mut Registers, bus: &mut B, n: u8, list: u8) -> Result<Flow, Fault>
-    ensures runs { run (multiple_of (Multiple.Ldm n list) r.old) (world_of B.Bus.bytes B.Bus.verdict bus.old) ≡ (outcome result r.new, world_of B.Bus.bytes B.Bus.verdict bus.new) }
-    ensures settled { B.Bus.settings bus.new ≡ B.Bus.settings bus.old }
+    ensures { Makes B.Bus bus.old bus.new (multiple_of (Multiple.Ldm n list) r.old) (outcome result r.new) }
 {
     let base = state::register(r, n);
     let right = state::right(r);
@@ -110,8 +103,7 @@ fn load_multiple<B: Bus>(r: &mut Registers, bus: &mut B, n: u8, list: u8) -> Res
 
 // LR to the word at `x`, where it is pushed.
 fn push_link<B: Bus>(r: &Registers, bus: &mut B, lr: bool, x: u32) -> Result<(), Fault>
-    ensures runs { run (link_pushed lr r.now x) (world_of B.Bus.bytes B.Bus.verdict bus.old) ≡ (result, world_of B.Bus.bytes B.Bus.verdict bus.new) }
-    ensures settled { B.Bus.settings bus.new ≡ B.Bus.settings bus.old }
+    ensures { Makes B.Bus bus.old bus.new (link_pushed lr r.now x) result }
 {
     if lr {
         bus.write(Width::Word, state::right(r), x, r.lr)?;
@@ -128,9 +120,7 @@ fn push_base(r: &Registers, list: u8, lr: bool) -> u32
 }
 
 fn push<B: Bus>(r: &mut Registers, bus: &mut B, list: u8, lr: bool) -> Result<Flow, Fault>
-    ensures runs { run (multiple_of (Multiple.Push list lr) r.old) (world_of B.Bus.bytes B.Bus.verdict bus.old) ≡ (outcome result r.new, world_of B.Bus.bytes B.Bus.verdict bus.new) }
-    ensures kept { KeptAt result r.old r.new }
-    ensures settled { B.Bus.settings bus.new ≡ B.Bus.settings bus.old }
+    ensures { Executes B.Bus bus.old bus.new r.old r.new (multiple_of (Multiple.Push list lr) r.old) outcome result }
 {
     let base = push_base(r, list, lr);
     let top = store_registers(r, bus, list, base)?;
@@ -148,8 +138,7 @@ fn pop_pc<B: Bus>(
     pc: bool,
     x: u32,
 ) -> Result<Flow, Fault>
-    ensures runs { run (pc_popped pc right r.old x) (world_of B.Bus.bytes B.Bus.verdict bus.old) ≡ (outcome result r.new, world_of B.Bus.bytes B.Bus.verdict bus.new) }
-    ensures settled { B.Bus.settings bus.new ≡ B.Bus.settings bus.old }
+    ensures { Makes B.Bus bus.old bus.new (pc_popped pc right r.old x) (outcome result r.new) }
 {
     if !pc {
         state::set_stack_pointer(r, x);
@@ -163,8 +152,7 @@ fn pop_pc<B: Bus>(
 
 // POP; a refused word leaves what was loaded before it.
 fn pop<B: Bus>(r: &mut Registers, bus: &mut B, list: u8, pc: bool) -> Result<Flow, Fault>
-    ensures runs { run (multiple_of (Multiple.Pop list pc) r.old) (world_of B.Bus.bytes B.Bus.verdict bus.old) ≡ (outcome result r.new, world_of B.Bus.bytes B.Bus.verdict bus.new) }
-    ensures settled { B.Bus.settings bus.new ≡ B.Bus.settings bus.old }
+    ensures { Makes B.Bus bus.old bus.new (multiple_of (Multiple.Pop list pc) r.old) (outcome result r.new) }
 {
     let base = state::stack_pointer(r);
     let right = state::right(r);
@@ -174,8 +162,7 @@ fn pop<B: Bus>(r: &mut Registers, bus: &mut B, list: u8, pc: bool) -> Result<Flo
 
 // The registers change as the words come.
 fn carry_out<B: Bus>(r: &mut Registers, bus: &mut B, instruction: Multiple) -> Result<Flow, Fault>
-    ensures runs { run (multiple_of instruction r.old) (world_of B.Bus.bytes B.Bus.verdict bus.old) ≡ (outcome result r.new, world_of B.Bus.bytes B.Bus.verdict bus.new) }
-    ensures settled { B.Bus.settings bus.new ≡ B.Bus.settings bus.old }
+    ensures { Makes B.Bus bus.old bus.new (multiple_of instruction r.old) (outcome result r.new) }
 {
     match instruction {
         Multiple::Stm { n, list } => store_multiple(r, bus, n, list),
@@ -191,9 +178,7 @@ fn load_or_keep<B: Bus>(
     bus: &mut B,
     instruction: Multiple,
 ) -> Result<Flow, Fault>
-    ensures runs { run (multiple_of instruction r.old) (world_of B.Bus.bytes B.Bus.verdict bus.old) ≡ (outcome result r.new, world_of B.Bus.bytes B.Bus.verdict bus.new) }
-    ensures kept { KeptAt result r.old r.new }
-    ensures settled { B.Bus.settings bus.new ≡ B.Bus.settings bus.old }
+    ensures { Executes B.Bus bus.old bus.new r.old r.new (multiple_of instruction r.old) outcome result }
 {
     let mut loaded = *r;
     let flow = carry_out(&mut loaded, bus, instruction)?;
@@ -206,9 +191,7 @@ pub fn multiple<B: Bus>(
     bus: &mut B,
     instruction: Multiple,
 ) -> Result<Flow, Fault>
-    ensures runs { run (multiple_of instruction r.old) (world_of B.Bus.bytes B.Bus.verdict bus.old) ≡ (outcome result r.new, world_of B.Bus.bytes B.Bus.verdict bus.new) }
-    ensures kept { KeptAt result r.old r.new }
-    ensures settled { B.Bus.settings bus.new ≡ B.Bus.settings bus.old }
+    ensures { Executes B.Bus bus.old bus.new r.old r.new (multiple_of instruction r.old) outcome result }
 {
     match instruction {
         Multiple::Stm { n, list } => store_multiple(r, bus, n, list),

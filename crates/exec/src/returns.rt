@@ -1,10 +1,10 @@
 // Returning from an exception.
 ghost use Rattle.std.specs.Prelude.{◌≡◌, true, not};
-ghost use Rattle.bus.specs.Program.{run, world_of};
+ghost use Rattle.bus.specs.Made.{Makes};
 ghost use Rattle.arch.specs.Registers.{right_if};
 ghost use Rattle.arch.specs.Return.{core_fault, to_thread, to_process, returnable, frame_pointer, forced_thread, number_in, consistent, unstacked, restacked, restored, acceptable as is_acceptable, read_four, read_upper, read_frame, verdict_on, unstack as unstack_of, exception_return};
 ghost use Rattle.arch.specs.Status.{word_flags};
-ghost use Rattle.exec.specs.Outcome.{returned_to, KeptAt};
+ghost use Rattle.exec.specs.Outcome.{Executes, returned_to, KeptAt};
 
 use arch::{Frame, Registers};
 use bus::{Bus, Cause, Fault, Right, Width};
@@ -34,8 +34,7 @@ fn may_return(r: &Registers, exc: u32) -> bool
 }
 
 fn read_four<B: Bus>(bus: &mut B, right: Right, x: u32) -> Result<[u32; 4], Fault>
-    ensures runs { run (read_four right x) (world_of B.Bus.bytes B.Bus.verdict bus.old) ≡ (result, world_of B.Bus.bytes B.Bus.verdict bus.new) }
-    ensures settled { B.Bus.settings bus.new ≡ B.Bus.settings bus.old }
+    ensures { Makes B.Bus bus.old bus.new (read_four right x) result }
 {
     let a = bus.read(Width::Word, right, x)?;
     let b = bus.read(Width::Word, right, x.wrapping_add(4))?;
@@ -46,8 +45,7 @@ fn read_four<B: Bus>(bus: &mut B, right: Right, x: u32) -> Result<[u32; 4], Faul
 
 // A frame whose lower words are read, with its upper ones at `x`.
 fn read_upper<B: Bus>(bus: &mut B, right: Right, lower: [u32; 4], x: u32) -> Result<Frame, Fault>
-    ensures runs { run (read_upper right lower x) (world_of B.Bus.bytes B.Bus.verdict bus.old) ≡ (result, world_of B.Bus.bytes B.Bus.verdict bus.new) }
-    ensures settled { B.Bus.settings bus.new ≡ B.Bus.settings bus.old }
+    ensures { Makes B.Bus bus.old bus.new (read_upper right lower x) result }
 {
     let [r12, lr, return_address, status] = read_four(bus, right, x)?;
     let [r0, r1, r2, r3] = lower;
@@ -65,8 +63,7 @@ fn read_upper<B: Bus>(bus: &mut B, right: Right, lower: [u32; 4], x: u32) -> Res
 
 // The frame at `x`, all of its words before any is used.
 fn read_frame<B: Bus>(bus: &mut B, right: Right, x: u32) -> Result<Frame, Fault>
-    ensures runs { run (read_frame right x) (world_of B.Bus.bytes B.Bus.verdict bus.old) ≡ (result, world_of B.Bus.bytes B.Bus.verdict bus.new) }
-    ensures settled { B.Bus.settings bus.new ≡ B.Bus.settings bus.old }
+    ensures { Makes B.Bus bus.old bus.new (read_frame right x) result }
 {
     let lower = read_four(bus, right, x)?;
     read_upper(bus, right, lower, x.wrapping_add(16))
@@ -201,18 +198,14 @@ fn frame_right(r: &Registers, exc: u32) -> Right
 }
 
 fn unstack<B: Bus>(r: &mut Registers, bus: &mut B, exc: u32) -> Result<(), Fault>
-    ensures runs { run (unstack_of true r.old exc) (world_of B.Bus.bytes B.Bus.verdict bus.old) ≡ (returned_to result r.new, world_of B.Bus.bytes B.Bus.verdict bus.new) }
-    ensures kept { KeptAt result r.old r.new }
-    ensures settled { B.Bus.settings bus.new ≡ B.Bus.settings bus.old }
+    ensures { Executes B.Bus bus.old bus.new r.old r.new (unstack_of true r.old exc) returned_to result }
 {
     let frame = read_frame(bus, frame_right(r, exc), frame_pointer(r, exc))?;
     take_frame(r, exc, frame)
 }
 
 pub fn exception_return<B: Bus>(r: &mut Registers, bus: &mut B, exc: u32) -> Result<(), Fault>
-    ensures runs { run (exception_return r.old exc) (world_of B.Bus.bytes B.Bus.verdict bus.old) ≡ (returned_to result r.new, world_of B.Bus.bytes B.Bus.verdict bus.new) }
-    ensures kept { KeptAt result r.old r.new }
-    ensures settled { B.Bus.settings bus.new ≡ B.Bus.settings bus.old }
+    ensures { Executes B.Bus bus.old bus.new r.old r.new (exception_return r.old exc) returned_to result }
 {
     if !may_return(r, exc) {
         return Err(fault(Cause::BadReturn, r));

@@ -1,9 +1,8 @@
 // Loads and stores of one register.
 ghost use Rattle.std.specs.Prelude.{◌≡◌, ◌%◌, ◌^◌};
-ghost use Rattle.bus.specs.Program.{run, world_of};
 ghost use Rattle.word.specs.Extend.{sign_extend};
 ghost use Rattle.arch.specs.Transfers.{address_of, loading, storing, transfer as transfer_of};
-ghost use Rattle.exec.specs.Outcome.{outcome, KeptAt};
+ghost use Rattle.exec.specs.Outcome.{Executes, outcome};
 
 use crate::flow::Flow;
 use arch::Registers;
@@ -27,9 +26,7 @@ fn store<B: Bus>(
     t: u8,
     address: u32,
 ) -> Result<Flow, Fault>
-    ensures runs { run (storing width r.old t address) (world_of B.Bus.bytes B.Bus.verdict bus.old) ≡ (outcome result r.new, world_of B.Bus.bytes B.Bus.verdict bus.new) }
-    ensures kept { KeptAt result r.old r.new }
-    ensures settled { B.Bus.settings bus.new ≡ B.Bus.settings bus.old }
+    ensures { Executes B.Bus bus.old bus.new r.old r.new (storing width r.old t address) outcome result }
 {
     bus.write(width, state::right(r), address, state::register(r, t))?;
     state::move_on(r, 2);
@@ -43,9 +40,7 @@ fn load<B: Bus>(
     t: u8,
     address: u32,
 ) -> Result<Flow, Fault>
-    ensures runs { run (loading width (λ v. v) r.old t address) (world_of B.Bus.bytes B.Bus.verdict bus.old) ≡ (outcome result r.new, world_of B.Bus.bytes B.Bus.verdict bus.new) }
-    ensures kept { KeptAt result r.old r.new }
-    ensures settled { B.Bus.settings bus.new ≡ B.Bus.settings bus.old }
+    ensures { Executes B.Bus bus.old bus.new r.old r.new (loading width (λ v. v) r.old t address) outcome result }
 {
     let value = bus.read(width, state::right(r), address)?;
     state::set_register(r, t, value);
@@ -62,9 +57,7 @@ fn load_signed<B: Bus>(
     t: u8,
     address: u32,
 ) -> Result<Flow, Fault>
-    ensures runs { run (loading width (λ v. sign_extend bits 32 (v % 2 ^ bits)) r.old t address) (world_of B.Bus.bytes B.Bus.verdict bus.old) ≡ (outcome result r.new, world_of B.Bus.bytes B.Bus.verdict bus.new) }
-    ensures kept { KeptAt result r.old r.new }
-    ensures settled { B.Bus.settings bus.new ≡ B.Bus.settings bus.old }
+    ensures { Executes B.Bus bus.old bus.new r.old r.new (loading width (λ v. sign_extend bits 32 (v % 2 ^ bits)) r.old t address) outcome result }
 {
     let value = bus.read(width, state::right(r), address)?;
     state::set_register(r, t, word::sign_extend(value, bits));
@@ -79,9 +72,7 @@ pub fn transfer<B: Bus>(
     t: u8,
     address: u32,
 ) -> Result<Flow, Fault>
-    ensures runs { run (transfer_of operation t address r.old) (world_of B.Bus.bytes B.Bus.verdict bus.old) ≡ (outcome result r.new, world_of B.Bus.bytes B.Bus.verdict bus.new) }
-    ensures kept { KeptAt result r.old r.new }
-    ensures settled { B.Bus.settings bus.new ≡ B.Bus.settings bus.old }
+    ensures { Executes B.Bus bus.old bus.new r.old r.new (transfer_of operation t address r.old) outcome result }
 {
     match operation {
         Transfer::Str => store(r, bus, Width::Word, t, address),

@@ -1,8 +1,9 @@
 -- Worked examples, each a step of a core from address 0 over memory that allows everything.
-use Rattle.std.specs.Prelude.{◌≡◌, ℕ, ◌/◌, ◌%◌, Bool, true, false, cond, ◌∷◌, replicate, Some, None, Option, ◌==◌, slice_index}
+use Rattle.std.specs.Prelude.{◌≡◌, ℕ, ◌/◌, ◌%◌, Bool, true, false, cond, ◌∷◌, replicate, Some, None, Ok, Err, Option, ◌==◌, slice_index}
 use Rattle.bus.specs.Fault.{cause_number}
 use Rattle.bus.specs.Program.{World, run}
 use Rattle.word.specs.declared.flags.Flags.{Flags}
+use Rattle.arch.specs.Answers.{Response}
 use Rattle.arch.specs.Entry.{frame_of}
 use Rattle.arch.specs.Registers.{with_general, with_primask}
 use Rattle.arch.specs.Return.{unstacked}
@@ -10,8 +11,7 @@ use Rattle.arch.specs.Status.{frame_status}
 use Rattle.arch.specs.Step.{fresh, step}
 use Rattle.arch.specs.declared.answers.Answer.{Answer}
 use Rattle.arch.specs.declared.answers.Answer.TheVariants.{Ran, Entered, Returned, Faulted, Locked}
-use Rattle.arch.specs.declared.answers.Response.{Response}
-use Rattle.arch.specs.declared.answers.Response.TheVariants.{Stepped, Accepted, Refused}
+use Rattle.arch.specs.declared.answers.Completed.TheVariants.{Stepped, Accepted}
 use Rattle.arch.specs.declared.registers.Registers.{Registers}
 use Rattle.parts.specs.Region.{covers}
 use Rattle.parts.specs.declared.region.Region.{Region}
@@ -48,9 +48,9 @@ fault_in (Faulted f) = cause_number f.cause
 fault_in (Locked f) = cause_number f.cause
 
 abbrev pub fault_of : Response → ℕ
-fault_of (Stepped answer) = fault_in answer
-fault_of Accepted = 0
-fault_of (Refused refusal) = 0
+fault_of (Ok (Stepped answer)) = fault_in answer
+fault_of (Ok Accepted) = 0
+fault_of (Err refusal) = 0
 
 abbrev pub fault_at : ℕ → Registers → ℕ
 fault_at halfword s = fault_of (run (step s) (memory halfword)).0.0

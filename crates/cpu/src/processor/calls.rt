@@ -1,13 +1,13 @@
 // What is asked of a core: steps, raisings, armings and rankings.
 ghost use Rattle.std.specs.Prelude.{◌≡◌};
-ghost use Rattle.bus.specs.Program.{run, world_of};
+ghost use Rattle.bus.specs.Made.{Makes};
 ghost use Rattle.arch.specs.Laws.{Kept};
 ghost use Rattle.arch.specs.Step.{step as step_of, external as is_external, raisable as is_raisable, rankable as is_rankable, raised, armed, ranked, answer_to};
 ghost use Rattle.cpu.specs.Responses.{stepped, accepted};
 
 use super::Core;
 use crate::step::step;
-use arch::{Answer, Call, Registers, Response};
+use arch::{Answer, Call, Completed, Registers, Response};
 use bus::{Bus, Refusal};
 
 // 16 to 47
@@ -29,15 +29,6 @@ fn rankable(number: u32) -> bool
     number == 11 || number == 14 || number == 15 || external(number)
 }
 
-fn response(res: Result<(), Refusal>) -> Response
-    ensures { result ≡ accepted res }
-{
-    match res {
-        Ok(()) => Response::Accepted,
-        Err(refusal) => Response::Refused(refusal),
-    }
-}
-
 impl Core {
     // Every register.
     pub fn registers(&self) -> &Registers
@@ -48,9 +39,8 @@ impl Core {
 
     // One step; a locked core makes none. A fault leaves the registers, but for HardFault pending or the lock mark.
     pub fn step<B: Bus>(&mut self, bus: &mut B) -> Result<Answer, Refusal>
-        ensures runs { run (step_of self.old.registers) (world_of B.Bus.bytes B.Bus.verdict bus.old) ≡ ((stepped result, self.new.registers), world_of B.Bus.bytes B.Bus.verdict bus.new) }
+        ensures made { Makes B.Bus bus.old bus.new (step_of self.old.registers) (stepped result, self.new.registers) }
         ensures kept { Kept (stepped result) self.old.registers self.new.registers }
-        ensures settled { B.Bus.settings bus.new ≡ B.Bus.settings bus.old }
     {
         step(&mut self.registers, bus)
     }
@@ -98,18 +88,16 @@ impl Core {
     }
 
     // Any of these.
+    #[tactic(auto, unfolding(arch::specs::Step::answer_to))]
     pub fn call<B: Bus>(&mut self, bus: &mut B, call: Call) -> Response
-        ensures runs { run (answer_to call self.old.registers) (world_of B.Bus.bytes B.Bus.verdict bus.old) ≡ ((result, self.new.registers), world_of B.Bus.bytes B.Bus.verdict bus.new) }
-        ensures settled { B.Bus.settings bus.new ≡ B.Bus.settings bus.old }
+        ensures { Makes B.Bus bus.old bus.new (answer_to call self.old.registers) (result, self.new.registers) }
     {
         match call {
-            Call::Step => match self.step(bus) {
-                Ok(answer) => Response::Stepped(answer),
-                Err(refusal) => Response::Refused(refusal),
-            },
-            Call::Raise(number) => response(self.raise(number)),
-            Call::Arm(number, on) => response(self.arm(number, on)),
-            Call::Rank(number, rank) => response(self.rank(number, rank)),
+            Call::Step => return Ok(Completed::Stepped(self.step(bus)?)),
+            Call::Raise(number) => self.raise(number)?,
+            Call::Arm(number, on) => self.arm(number, on)?,
+            Call::Rank(number, rank) => self.rank(number, rank)?,
         }
+        Ok(Completed::Accepted)
     }
 }

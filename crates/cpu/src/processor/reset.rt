@@ -1,8 +1,8 @@
 // How a core begins.
 ghost use Rattle.std.specs.Prelude.{◌≡◌};
-ghost use Rattle.bus.specs.Program.{run, world_of};
+ghost use Rattle.bus.specs.Made.{Makes};
 ghost use Rattle.arch.specs.Step.{blank as blank_of, fresh as fresh_of, new_core, reset as reset_of};
-ghost use Rattle.exec.specs.Outcome.{returned_to, KeptAt};
+ghost use Rattle.exec.specs.Outcome.{Executes, returned_to};
 ghost use Rattle.cpu.specs.Restored.{Restored};
 
 use super::Core;
@@ -56,11 +56,11 @@ fn fresh(msp: u32, start: u32) -> Registers
     )
 }
 
+#[tactic(auto, unfolding(arch::specs::Step::reset))]
 fn boot<B: Bus>(bus: &mut B) -> Result<Registers, Fault>
-    ensures runs { run reset_of (world_of B.Bus.bytes B.Bus.verdict bus.old) ≡ (result, world_of B.Bus.bytes B.Bus.verdict bus.new) }
+    ensures made { Makes B.Bus bus.old bus.new reset_of result }
     ensures contents { B.Bus.bytes bus.new ≡ B.Bus.bytes bus.old }
     ensures verdicts { B.Bus.verdict bus.new ≡ B.Bus.verdict bus.old }
-    ensures settled { B.Bus.settings bus.new ≡ B.Bus.settings bus.old }
 {
     let msp = bus.read(Width::Word, Right::Privileged, 0)?;
     let start = bus.read(Width::Word, Right::Privileged, 4)?;
@@ -97,11 +97,9 @@ impl Core {
 
     // A refused read is answered and changes nothing.
     pub fn reset<B: Bus>(&mut self, bus: &mut B) -> Result<(), Fault>
-        ensures runs { run reset_of (world_of B.Bus.bytes B.Bus.verdict bus.old) ≡ (returned_to result self.new.registers, world_of B.Bus.bytes B.Bus.verdict bus.new) }
-        ensures kept { KeptAt result self.old.registers self.new.registers }
+        ensures made { Executes B.Bus bus.old bus.new self.old.registers self.new.registers reset_of returned_to result }
         ensures contents { B.Bus.bytes bus.new ≡ B.Bus.bytes bus.old }
         ensures verdicts { B.Bus.verdict bus.new ≡ B.Bus.verdict bus.old }
-        ensures settled { B.Bus.settings bus.new ≡ B.Bus.settings bus.old }
     {
         self.registers = boot(bus)?;
         Ok(())

@@ -1,6 +1,7 @@
 use Rattle.std.proofs.Common.{◌≡◌, ◌+◌, ◌<◌, ◌∷◌, length, get_or, drop, sym, ap, ◌∙◌, ap₂, add-one, arith, drop-cons, rules}
 use lib.Seq.{drop-length}
-use Rattle.bus.specs.Program.{run, world_of}
+use Rattle.bus.specs.Made.{world}
+use Rattle.bus.specs.Program.{run}
 use Rattle.arch.specs.Accesses.{try_words}
 use Rattle.arch.specs.Registers.{plus}
 use Rattle.cpu.proofs.Stacking.{try_step}
@@ -19,8 +20,8 @@ loop-word-preserved g c =
     let x = c.loop-word.at in
     let v = get_or words i 0 in
     let rest = drop (i + 1) words in
-    let before = world_of bus.bytes bus.verdict c.loop-word.bus in
-    let after = world_of bus.bytes bus.verdict c.write.new.self in
+    let before = world bus c.loop-word.bus in
+    let after = world bus c.write.new.self in
     let made = c.write.ensures in
     let within : i < length words = omega arith in
     let cut : drop i words ≡ v ∷ rest = rw (add-one, drop-cons words i 0) in (
@@ -36,7 +37,7 @@ unfolding try_words
 returns g c =
     let bus = g.B.Bus in
     let words = c.args.words in
-    let before = world_of bus.bytes bus.verdict c.loop-word.bus in
+    let before = world bus c.loop-word.bus in
     let end : c.loop-word.word-index ≡ length words = omega arith in
     record {
       runs = sym c.loop-word.invariant.0 ∙ ap (λ ws. run (try_words c.args.right c.loop-word.first ws c.loop-word.at) before) (ap (λ i. drop i words) end ∙ drop-length words);

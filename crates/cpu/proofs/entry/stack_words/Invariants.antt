@@ -1,5 +1,6 @@
 use Rattle.std.proofs.Common.{◌≡◌, drop, None}
-use Rattle.bus.specs.Program.{run, world_of}
+use Rattle.bus.specs.Made.{world}
+use Rattle.bus.specs.Program.{run}
 use Rattle.arch.specs.Accesses.{try_words}
 use Rattle.cpu.proofs.entry.stack_words.Given as goal
 
@@ -7,5 +8,5 @@ use Rattle.cpu.proofs.entry.stack_words.Given as goal
 abbrev pub invariant-loop-word : goal.invariant-loop-word
 invariant-loop-word g l =
     let bus = g.B.Bus in
-    (run (try_words l.right l.first (drop l.word-index l.word-items) l.at) (world_of bus.bytes bus.verdict l.bus) ≡ run (try_words l.right None l.word-items l.x) (world_of bus.bytes bus.verdict l.initial.bus))
+    (run (try_words l.right l.first (drop l.word-index l.word-items) l.at) (world bus l.bus) ≡ run (try_words l.right None l.word-items l.x) (world bus l.initial.bus))
     × (bus.settings l.bus ≡ bus.settings l.initial.bus)

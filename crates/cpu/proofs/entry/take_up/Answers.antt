@@ -1,5 +1,6 @@
 use Rattle.std.proofs.Common.{Bool, sym, ap, ◌∙◌}
-use Rattle.bus.specs.Program.{run, world_of}
+use Rattle.bus.specs.Made.{world}
+use Rattle.bus.specs.Program.{run}
 use Rattle.arch.specs.Entry.{is_last, stack_frame, take}
 use Rattle.exec.proofs.Sequence.{run_on}
 use Rattle.cpu.proofs.entry.take_up.Goals as goal
@@ -10,8 +11,8 @@ returns-then-is_last g c =
     let s = c.args.r.now in
     let n = c.args.number in
     let refused = c.stack_frame-refused.result in
-    let before = world_of bus.bytes bus.verdict c.args.bus.now in
-    let between = world_of bus.bytes bus.verdict c.stack_frame-refused.new.bus in
+    let before = world bus c.args.bus.now in
+    let between = world bus c.stack_frame-refused.new.bus in
     let last = sym c.is_last.ensures ∙ c.if-is_last.true in
     record {
       runs = run_on (stack_frame s) (take (is_last n) s n) before between refused c.stack_frame-refused.ensures.runs ∙ ap (λ (b : Bool). run (take b s n refused) between) last ∙ c.take_last.ensures.runs;
@@ -24,8 +25,8 @@ returns g c =
     let s = c.args.r.now in
     let n = c.args.number in
     let refused = c.stack_frame-refused.result in
-    let before = world_of bus.bytes bus.verdict c.args.bus.now in
-    let between = world_of bus.bytes bus.verdict c.stack_frame-refused.new.bus in
+    let before = world bus c.args.bus.now in
+    let between = world bus c.stack_frame-refused.new.bus in
     let other = sym c.is_last.ensures ∙ c.if-is_last.false in
     record {
       runs = run_on (stack_frame s) (take (is_last n) s n) before between refused c.stack_frame-refused.ensures.runs ∙ ap (λ (b : Bool). run (take b s n refused) between) other ∙ c.take_other.ensures.runs;

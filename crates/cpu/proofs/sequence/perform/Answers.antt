@@ -1,7 +1,7 @@
 use Rattle.std.proofs.Common.{◌+◌, ◌<◌, Bool, cond, List, [], ◌∷◌, ◌++◌, vec_items, vec_len, vec_capacity, sym, refl, ap, ◌∙◌, subst, arith}
-use Rattle.bus.specs.Program.{world_of}
-use Rattle.arch.specs.declared.answers.Response.{Response}
+use Rattle.bus.specs.Made.{world}
 use Rattle.arch.proofs.Isolating.{isolation_stands}
+use Rattle.arch.specs.Answers.{Response}
 use Rattle.cpu.specs.Performed.{machine, start_of}
 use Rattle.cpu.proofs.Calling.{Underway, underway_none, underway_more, underway_all}
 use Rattle.cpu.proofs.sequence.perform.Goals as goal
@@ -9,7 +9,7 @@ use Rattle.cpu.proofs.sequence.perform.Goals as goal
 pub loop-call-init : goal.loop-call-init
 loop-call-init g c =
     let bus = g.B.Bus in
-    let fresh = machine c.reset.new.self.registers (world_of bus.bytes bus.verdict c.reset.new.bus) in
+    let fresh = machine c.reset.new.self.registers (world bus c.reset.new.bus) in
     let empty = c.in-Ok.ensures in
     (underway_none c.args.calls.now fresh (vec_items c.in-Ok.answers) empty.items, refl, empty.len, empty.capacity)
 
@@ -20,9 +20,9 @@ loop-call-preserved g c =
     let i = c.loop-call.call-index in
     let s = c.loop-call.core.registers in
     let t = c.call-answer.new.self.registers in
-    let fresh = machine c.reset.new.self.registers (world_of bus.bytes bus.verdict c.reset.new.bus) in
-    let before = world_of bus.bytes bus.verdict c.loop-call.bus in
-    let after = world_of bus.bytes bus.verdict c.call-answer.new.bus in
+    let fresh = machine c.reset.new.self.registers (world bus c.reset.new.bus) in
+    let before = world bus c.loop-call.bus in
+    let after = world bus c.call-answer.new.bus in
     let answer = c.call-answer.result in
     let made = c.call-answer.ensures in
     let inv = c.loop-call.invariant in
@@ -41,13 +41,13 @@ returns g c =
     let bus = g.B.Bus in
     let calls = c.args.calls.now in
     let fresh = c.reset.new.self.registers in
-    let start = world_of bus.bytes bus.verdict c.args.bus.now in
-    let began = world_of bus.bytes bus.verdict c.reset.new.bus in
-    let here = machine c.loop-call.core.registers (world_of bus.bytes bus.verdict c.loop-call.bus) in
+    let start = world bus c.args.bus.now in
+    let began = world bus c.reset.new.bus in
+    let here = machine c.loop-call.core.registers (world bus c.loop-call.bus) in
     let inv = c.loop-call.invariant in
     let reset = c.in_default-reset.ensures in
     let all = underway_all calls (machine fresh began) c.loop-call.call-index (vec_items c.loop-call.answers) here c.loop-call-test.false inv.0 in
     record {
-      performed = (machine fresh began, ap start_of reset.runs, record { answered = all.0; leaves = all.1; isolated = isolation_stands start began fresh calls reset.runs });
-      settled = inv.1 ∙ reset.settled;
+      performed = (machine fresh began, ap start_of reset.made.runs, record { answered = all.0; leaves = all.1; isolated = isolation_stands start began fresh calls reset.made.runs });
+      settled = inv.1 ∙ reset.made.settled;
     }

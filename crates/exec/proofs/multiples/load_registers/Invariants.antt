@@ -1,5 +1,6 @@
 use Rattle.std.proofs.Common.{◌≡◌, ◌-◌}
-use Rattle.bus.specs.Program.{run, world_of}
+use Rattle.bus.specs.Made.{world}
+use Rattle.bus.specs.Program.{run}
 use Rattle.arch.specs.Transfers.{registers_from, registers_of, load_registers}
 use Rattle.exec.proofs.multiples.load_registers.Given as goal
 
@@ -7,5 +8,5 @@ use Rattle.exec.proofs.multiples.load_registers.Given as goal
 abbrev pub invariant-loop-i : goal.invariant-loop-i
 invariant-loop-i g l =
     let bus = g.B.Bus in
-    (run (load_registers l.right l.r (registers_from (8 - l.i) l.i l.list) l.at) (world_of bus.bytes bus.verdict l.bus) ≡ run (load_registers l.right l.initial.r (registers_of l.list) l.x) (world_of bus.bytes bus.verdict l.initial.bus))
+    (run (load_registers l.right l.r (registers_from (8 - l.i) l.i l.list) l.at) (world bus l.bus) ≡ run (load_registers l.right l.initial.r (registers_of l.list) l.x) (world bus l.initial.bus))
     × (bus.settings l.bus ≡ bus.settings l.initial.bus)

@@ -1,6 +1,7 @@
 use Rattle.std.proofs.Common.{ℕ, ◌+◌, ◌*◌, Ok, Err, sym, refl, ap, ◌∙◌}
 use Rattle.std.proofs.lemmas.Result.{err_from_is_err_and}
-use Rattle.bus.specs.Program.{done, world_of}
+use Rattle.bus.specs.Made.{world}
+use Rattle.bus.specs.Program.{done}
 use Rattle.word.specs.Sums.{one_if}
 use Rattle.arch.specs.Accesses.{then}
 use Rattle.arch.specs.Branches.{ran}
@@ -18,8 +19,8 @@ returns-in_err-top g c =
     let list = c.args.list in
     let lr = c.args.lr in
     let base : ℕ = minus (sp s) (span list + 4 * one_if lr) in
-    let before = world_of bus.bytes bus.verdict c.args.bus.now in
-    let after = world_of bus.bytes bus.verdict c.store_registers.new.bus in
+    let before = world bus c.args.bus.now in
+    let after = world bus c.store_registers.new.bus in
     let refused = c.in_err-top.ensures in
     let p = err_from_is_err_and c.from_residual.result c.from_residual.ensures.1 in
     rw (p.1, p.2) (record {
@@ -35,9 +36,9 @@ returns-in_err-push_link g c =
     let list = c.args.list in
     let lr = c.args.lr in
     let base : ℕ = minus (sp s) (span list + 4 * one_if lr) in
-    let before = world_of bus.bytes bus.verdict c.args.bus.now in
-    let between = world_of bus.bytes bus.verdict c.store_registers.new.bus in
-    let after = world_of bus.bytes bus.verdict c.push_link.new.bus in
+    let before = world bus c.args.bus.now in
+    let between = world bus c.store_registers.new.bus in
+    let after = world bus c.push_link.new.bus in
     let stored = c.in_ok-top.ensures in
     let refused = c.in_err-push_link.ensures in
     let p = err_from_is_err_and c.from_residual-in_err-push_link.result c.from_residual-in_err-push_link.ensures.1 in
@@ -55,9 +56,9 @@ returns g c =
     let list = c.args.list in
     let lr = c.args.lr in
     let base : ℕ = minus (sp s) (span list + 4 * one_if lr) in
-    let before = world_of bus.bytes bus.verdict c.args.bus.now in
-    let between = world_of bus.bytes bus.verdict c.store_registers.new.bus in
-    let after = world_of bus.bytes bus.verdict c.push_link.new.bus in
+    let before = world bus c.args.bus.now in
+    let between = world bus c.store_registers.new.bus in
+    let after = world bus c.push_link.new.bus in
     let stored = c.in_ok-top.ensures in
     let linked = c.in_ok-push_link.ensures in
     let left = c.move_on.ensures ∙ ap (moved_on 2) (c.set_stack_pointer.ensures ∙ ap (with_sp s) c.push_base-base.ensures) in

@@ -1,6 +1,7 @@
 use Rattle.std.proofs.Common.{Ok, Err, sym, refl, ap, ◌∙◌, ap₂}
 use Rattle.std.proofs.lemmas.Result.{err_from_is_err_and}
-use Rattle.bus.specs.Program.{done, world_of}
+use Rattle.bus.specs.Made.{world}
+use Rattle.bus.specs.Program.{done}
 use Rattle.arch.specs.Branches.{ran}
 use Rattle.arch.specs.Registers.{plus, reg, with_reg, moved_on}
 use Rattle.arch.specs.Transfers.{registers_of, store_registers, span}
@@ -14,8 +15,8 @@ returns-in_err-store_registers g c =
     let s = c.args.r.now in
     let n = c.args.n in
     let list = c.args.list in
-    let before = world_of bus.bytes bus.verdict c.args.bus.now in
-    let after = world_of bus.bytes bus.verdict c.store_registers.new.bus in
+    let before = world bus c.args.bus.now in
+    let after = world bus c.store_registers.new.bus in
     let refused = c.in_err-store_registers.ensures in
     let p = err_from_is_err_and c.from_residual.result c.from_residual.ensures.1 in
     rw (p.1, p.2) (record {
@@ -30,8 +31,8 @@ returns g c =
     let s = c.args.r.now in
     let n = c.args.n in
     let list = c.args.list in
-    let before = world_of bus.bytes bus.verdict c.args.bus.now in
-    let after = world_of bus.bytes bus.verdict c.store_registers.new.bus in
+    let before = world bus c.args.bus.now in
+    let after = world bus c.store_registers.new.bus in
     let made = c.in_ok-store_registers.ensures in
     let left = c.move_on.ensures ∙ ap (moved_on 2) (c.set_register.ensures ∙ ap₂ (λ x k. with_reg s n (plus x k)) c.register-base.ensures c.span.ensures.value) in
     record {

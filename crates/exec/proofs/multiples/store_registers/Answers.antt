@@ -1,6 +1,7 @@
 use Rattle.std.proofs.Common.{◌+◌, ◌-◌, Ok, Err, sym, ap, ◌∙◌, arith}
 use Rattle.std.proofs.lemmas.Result.{err_from_is_err_and}
-use Rattle.bus.specs.Program.{run, world_of}
+use Rattle.bus.specs.Made.{world}
+use Rattle.bus.specs.Program.{run}
 use Rattle.arch.specs.Transfers.{registers_from, store_registers}
 use Rattle.exec.specs.Lists.{store_next}
 use Rattle.exec.proofs.Lists.{from_end, store_step}
@@ -14,8 +15,8 @@ returns-in_err-at g c =
     let list = c.args.list in
     let i = c.loop-i.i in
     let x = c.loop-i.at in
-    let before = world_of bus.bytes bus.verdict c.loop-i.bus in
-    let after = world_of bus.bytes bus.verdict c.store_next.new.bus in
+    let before = world bus c.loop-i.bus in
+    let after = world bus c.store_next.new.bus in
     let refused = c.in_err-at.ensures in
     let p = err_from_is_err_and c.from_residual.result c.from_residual.ensures.1 in
     rw (p.1, p.2) (record {
@@ -30,8 +31,8 @@ loop-i-preserved g c =
     let list = c.args.list in
     let i = c.loop-i.i in
     let x = c.loop-i.at in
-    let before = world_of bus.bytes bus.verdict c.loop-i.bus in
-    let after = world_of bus.bytes bus.verdict c.store_next.new.bus in
+    let before = world bus c.loop-i.bus in
+    let after = world bus c.store_next.new.bus in
     let made = c.in_ok-at.ensures in (
       sym (run_then (store_next s list i x) (store_registers s (registers_from (8 - (i + 1)) (i + 1) list)) before after (Ok c.in_ok-at.at) made.runs) ∙ sym (store_step s list i x before (omega arith)) ∙ c.loop-i.invariant.0,
       made.settled ∙ c.loop-i.invariant.1,
@@ -43,7 +44,7 @@ returns g c =
     let bus = g.B.Bus in
     let s = c.args.r.now in
     let i = c.loop-i.i in
-    let before = world_of bus.bytes bus.verdict c.loop-i.bus in
+    let before = world bus c.loop-i.bus in
     record {
       runs = sym c.loop-i.invariant.0 ∙ ap (λ is. run (store_registers s is c.loop-i.at) before) (from_end i c.args.list (omega arith));
       settled = c.loop-i.invariant.1;

@@ -1,6 +1,6 @@
 use Rattle.std.proofs.Common.{not, Ok, Err, Result, sym, refl, ap, ◌∙◌}
 use Rattle.std.proofs.lemmas.Result.{err_from_is_err_and}
-use Rattle.bus.specs.Program.{world_of}
+use Rattle.bus.specs.Made.{world}
 use Rattle.bus.specs.declared.fault.Fault.{Fault}
 use Rattle.arch.specs.Registers.{right_if}
 use Rattle.arch.specs.Return.{forced_thread, frame_pointer, judged, read_frame}
@@ -13,8 +13,8 @@ returns-in_err-frame g c =
     let bus = g.B.Bus in
     let s = c.args.r.now in
     let exc = c.args.exc in
-    let before = world_of bus.bytes bus.verdict c.args.bus.now in
-    let after = world_of bus.bytes bus.verdict c.read_frame.new.bus in
+    let before = world bus c.args.bus.now in
+    let after = world bus c.read_frame.new.bus in
     let p = err_from_is_err_and c.from_residual.result c.from_residual.ensures.1 in
     let refused = rw (c.frame_right.ensures, c.frame_pointer.ensures) at c.in_err-frame.ensures.runs in
     rw (p.1, p.2) (record {
@@ -28,8 +28,8 @@ returns g c =
     let bus = g.B.Bus in
     let s = c.args.r.now in
     let exc = c.args.exc in
-    let before = world_of bus.bytes bus.verdict c.args.bus.now in
-    let after = world_of bus.bytes bus.verdict c.read_frame.new.bus in
+    let before = world bus c.args.bus.now in
+    let after = world bus c.read_frame.new.bus in
     let f = c.in_ok-frame.frame in
     let granted = rw (c.frame_right.ensures, c.frame_pointer.ensures) at c.in_ok-frame.ensures.runs in
     record {
