@@ -32,7 +32,7 @@ loop-call-preserved g c =
     let inv = c.loop-call.invariant in
     let items = vec_items c.loop-call.answers in
     let made = c.in_ok-answer.ensures in (
-      subst (λ (rs : List Response). Underway calls fresh (i + 1) rs (machine t after)) (sym c.in_ok-push.ensures.items) (underway_more calls fresh i items s t before after c.in_ok-answer.answer c.loop-call-test.true made.runs inv.0),
+      subst (λ (rs : List Response). Underway calls fresh (i + 1) rs (machine t after)) (sym c.in_ok-push.ensures.items) (underway_more calls fresh i items s t before after c.in_ok-answer.answer c.loop-call-test.true made.made.runs inv.0),
       made.settled ∙ inv.1,
     )
 
