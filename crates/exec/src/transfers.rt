@@ -19,6 +19,8 @@ pub fn address_of(r: &Registers, address: Address) -> u32
     }
 }
 
+// The registers and the bus go as two loans: in a struct of both, each method would also promise that it still holds the
+// same two, and reach them through one pointer more.
 fn store<B: Bus>(
     r: &mut Registers,
     bus: &mut B,
