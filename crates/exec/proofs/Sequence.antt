@@ -1,9 +1,13 @@
 -- One program after another, run.
 use Rattle.std.proofs.Common.{◌≡◌, Ok, Err, Result, refl, ap, ◌∙◌}
+use Rattle.bus.specs.Made.{Makes, world}
 use Rattle.bus.specs.Program.{World, Program, done, ask, bind, reply, left, run}
 use Rattle.bus.specs.declared.fault.Fault.{Fault}
+use Rattle.bus.specs.declared.interface.Bus.{Ghosts as Bus}
 use Rattle.bus.proofs.Programs.{run_bind}
 use Rattle.arch.specs.Accesses.{Attempt, then, go_on}
+use Rattle.arch.specs.declared.registers.Registers.{Registers}
+use Rattle.exec.specs.Outcome.{Executes, KeptAt}
 
 -- what the first came to, the second goes on from
 pub run_on : {A B : Type 0} (p : Program A) (next : A → Program B) (w w' : World) (a : A) → run p w ≡ (a, w') → run (bind p next) w ≡ run (next a) w'
@@ -17,3 +21,27 @@ pub run_assoc : {A B C : Type 0} (p : Attempt A) (f : A → Attempt B) (next : B
 run_assoc (done (Ok a)) f next w = refl
 run_assoc (done (Err e)) f next w = refl
 run_assoc (ask a v k) f next w = run_assoc (k (reply w a)) f next (left w a v)
+
+-- a program at its end makes nothing more
+pub makes_nothing : {S A : Type 0} {bus : Bus S} {here : S} {a : A} → Makes bus here here (done a) a
+makes_nothing = record { runs = refl; settled = refl }
+
+-- what is made, with the registers that a refusal leaves
+pub executed : {S A R : Type 0} {bus : Bus S} {before after : S} {s t : Registers} {p : Attempt A} {told : Result R Fault → Registers → Result A Fault} {r : Result R Fault} → Makes bus before after p (told r t) → KeptAt r s t → Executes bus before after s t p told r
+executed made kept = record { runs = made.runs; kept = kept; settled = made.settled }
+
+-- and back
+pub makes_of : {S A R : Type 0} {bus : Bus S} {before after : S} {s t : Registers} {p : Attempt A} {told : Result R Fault → Registers → Result A Fault} {r : Result R Fault} → Executes bus before after s t p told r → Makes bus before after p (told r t)
+makes_of executes = record { runs = executes.runs; settled = executes.settled }
+
+module _ {S A B : Type 0} {bus : Bus S} {p : Attempt A} {old new : S} (next : A → Attempt B) where
+  -- the first is made, and then what it leads to
+  pub makes_then : {between : S} {a : A} {r : Result B Fault} → Makes bus old between p (Ok a) → Makes bus between new (next a) r → Makes bus old new (then p next) r
+  makes_then {between} {a} first second = record {
+    runs = run_then p next (world bus old) (world bus between) (Ok a) first.runs ∙ second.runs;
+    settled = second.settled ∙ first.settled;
+  }
+
+  -- the first is refused, and no more is made
+  pub makes_no_more : {f : Fault} → Makes bus old new p (Err f) → Makes bus old new (then p next) (Err f)
+  makes_no_more {f} refused = record { runs = run_then p next (world bus old) (world bus new) (Err f) refused.runs; settled = refused.settled }
