@@ -1,4 +1,5 @@
 use Rattle.std.proofs.Common.{◌≡◌, ◌+◌, ◌<◌, ◌∷◌, length, get_or, drop, sym, ap, ◌∙◌, ap₂, add-one, arith, drop-cons, rules}
+use Rattle.std.specs.Option.{option_or}
 use lib.Seq.{drop-length}
 use Rattle.bus.specs.Made.{world}
 use Rattle.bus.specs.Program.{run}
@@ -25,7 +26,7 @@ loop-word-preserved g c =
     let made = c.write.ensures in
     let within : i < length words = omega arith in
     let cut : drop i words ≡ v ∷ rest = rw (add-one, drop-cons words i 0) in (
-      ap (λ o. run (try_words right o rest (plus x 4)) after) c.note-first.ensures
+      ap (λ o. run (try_words right o rest (plus x 4)) after) (c.or-first.ensures ∙ ap (option_or first) c.err.ensures.value)
           ∙ sym (try_step right first v x rest before after c.write.result made.value (ap₂ (λ b d. record { bytes = b; verdict = d }) made.contents made.verdicts))
           ∙ ap (λ ws. run (try_words right first ws x) before) (sym cut)
           ∙ c.loop-word.invariant.0,

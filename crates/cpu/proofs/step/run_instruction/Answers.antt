@@ -5,11 +5,11 @@ use Rattle.arch.specs.Answers.{Response}
 use Rattle.arch.specs.Step.{instruction, settle}
 use Rattle.arch.specs.declared.answers.Completed.TheVariants.{Stepped}
 use Rattle.arch.specs.declared.registers.Registers.{Registers}
+use Rattle.exec.specs.Flow.{answer_of}
 use Rattle.exec.specs.Outcome.{ended}
 use Rattle.exec.specs.declared.flow.Flow.{Flow}
 use Rattle.exec.specs.declared.flow.Flow.TheVariants.{Ran, Returned}
 use Rattle.exec.proofs.Sequence.{run_on}
-use Rattle.cpu.specs.Responses.{answer_of}
 use Rattle.cpu.proofs.step.run_instruction.Goals as goal
 
 settled_flow : (s t : Registers) (flow : Flow) → settle s (Ok (ended flow t)) ≡ (Ok (Stepped (answer_of flow)), t)
@@ -25,7 +25,7 @@ returns-in-Ok g c =
     let before = world bus c.args.bus.now in
     let after = world bus c.instruction.new.bus in
     let made = c.in-Ok.ensures in
-    let settled_as = settled_flow s t flow ∙ ap (λ a. (Ok (Stepped a), t)) (sym c.answer.ensures) in
+    let settled_as = settled_flow s t flow ∙ ap (λ a. (Ok (Stepped a), t)) (sym c.from.ensures) in
     record {
       runs = run_on (instruction s) (λ r. done (settle s r)) before after (Ok (ended flow t)) made.runs ∙ ap (λ (x : Response × Registers). (x, after)) settled_as;
       settled = made.settled;
