@@ -11,3 +11,9 @@ world bus s = world_of bus.bytes bus.verdict s
 pub record Makes {S A : Type 0} (bus : Bus S) (old new : S) (program : Program A) (a : A) : Type 0 where
   pub runs : run program (world bus old) ≡ (a, world bus new)
   pub settled : bus.settings new ≡ bus.settings old
+
+-- nothing but reads was made of it
+pub record Leaves {S : Type 0} (bus : Bus S) (old new : S) : Type 0 where
+  pub contents : bus.bytes new ≡ bus.bytes old
+  pub verdicts : bus.verdict new ≡ bus.verdict old
+  pub settled : bus.settings new ≡ bus.settings old

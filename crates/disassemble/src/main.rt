@@ -18,8 +18,7 @@ fn address(text: &str) -> anyhow::Result<u32> {
 }
 
 fn run(rt: &HostRuntime) -> anyhow::Result<()> {
-    let mut args = env::args(rt)?;
-    let _ = args.next();
+    let mut args = env::args(rt)?.skip(1);
     let Some(file) = args.next() else {
         print_image(rt, &SCHEDULE, SCHEDULE_BASE)?;
         return Ok(());

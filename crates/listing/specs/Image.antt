@@ -1,5 +1,5 @@
 -- A raw image of little-endian halfwords, cut into encodings.
-use Rattle.std.specs.Prelude.{ℕ, ◌+◌, ◌*◌, cond, List, length, Some, None, Option, nat_lt, slice_index}
+use Rattle.std.specs.Prelude.{◌≡◌, ℕ, ◌+◌, ◌*◌, ◌<◌, cond, List, length, drop, Some, None, Option, nat_lt, slice_index}
 use Rattle.thumb.specs.Decoded.{wide_first}
 use Rattle.listing.specs.declared.image.Piece.{Piece}
 use Rattle.listing.specs.declared.image.Piece.TheVariants.{Narrow, Wide, Cut, Odd}
@@ -23,3 +23,10 @@ piece_length (Narrow first) = 2
 piece_length (Wide first second) = 4
 piece_length (Cut first) = 2
 piece_length (Odd byte) = 1
+
+-- an image is a piece and the rest
+pub record Begins (image : List ℕ) (piece : Piece) (rest : List ℕ) : Type 0 where
+  pub first : piece_at image 0 ≡ Some piece
+  pub after : rest ≡ drop (piece_length piece) image
+  pub parts : piece_length piece + length rest ≡ length image
+  pub some : 0 < piece_length piece

@@ -1,14 +1,14 @@
 //! A raw image, cut into encodings.
-ghost use Rattle.std.specs.Prelude.{◌≡◌, ◌+◌, ◌<◌, ◌≤◌, length, MatchOption};
-ghost use Rattle.listing.specs.Image.{halfword_at, piece_at, piece_length};
+ghost use Rattle.std.specs.Prelude.{◌≡◌, length, MatchOption};
+ghost use Rattle.std.specs.Iterator.{at_most};
+ghost use Rattle.listing.specs.Image.{Begins, piece_length};
 
 use crate::Listing;
 use std::{fmt, io};
-use thumb::instructions::Refusal;
 use thumb::{decode, is_wide};
 
 /// What stands at a place of an image.
-#[derive(Clone, Copy)]
+#[derive(Clone, Copy, Debug, PartialEq, Eq)]
 pub enum Piece {
     Narrow(u16),
     Wide(u16, u16),
@@ -20,51 +20,42 @@ pub enum Piece {
 
 impl Piece {
     /// How many bytes it has.
-    fn length(self) -> usize
+    fn length(self) -> u32
         ensures { result ≡ piece_length self }
     {
         match self {
-            Piece::Narrow(_) => 2,
+            Piece::Narrow(_) | Piece::Cut(_) => 2,
             Piece::Wide(_, _) => 4,
-            Piece::Cut(_) => 2,
             Piece::Odd(_) => 1,
         }
     }
 }
 
-/// The halfword whose low byte is at `i`.
-fn halfword(image: &[u8], i: usize) -> u16
-    requires { i + 1 < length image.now }
-    ensures { result ≡ halfword_at image.now i }
+/// What an image begins with, and what comes after.
+fn split_piece(image: &[u8]) -> Option<(Piece, &[u8])>
+    ensures { MatchOption result (length image.now ≡ 0) (λ r. Begins image.now r.0 r.1.now) }
 {
-    u16::from(image[i]) + u16::from(image[i + 1]) * 256
-}
-
-/// What begins at byte `i`; nothing from the end on.
-fn piece_at(image: &[u8], i: usize) -> Option<Piece>
-    ensures value { result ≡ piece_at image.now i }
-    ensures within { MatchOption result (length image.now ≤ i) (λ p. (0 < piece_length p) × (i + piece_length p ≤ length image.now)) }
-{
-    let length = image.len();
-    if i >= length {
-        return None;
-    }
-    let left = length - i;
-    if left == 1 {
-        return Some(Piece::Odd(image[i]));
-    }
-    let first = halfword(image, i);
-    if !is_wide(first) {
-        Some(Piece::Narrow(first))
-    } else if left < 4 {
-        Some(Piece::Cut(first))
-    } else {
-        Some(Piece::Wide(first, halfword(image, i + 2)))
+    match image {
+        [] => None,
+        [byte] => Some((Piece::Odd(*byte), &[])),
+        [a, b, rest @ ..] => {
+            let first = u16::from_le_bytes([*a, *b]);
+            if !is_wide(first) {
+                return Some((Piece::Narrow(first), rest));
+            }
+            match rest {
+                [c, d, rest @ ..] => {
+                    let second = u16::from_le_bytes([*c, *d]);
+                    Some((Piece::Wide(first, second), rest))
+                }
+                _ => Some((Piece::Cut(first), rest)),
+            }
+        }
     }
 }
 
 /// A piece at its address, as a line of a listing.
-#[derive(Clone, Copy)]
+#[derive(Clone, Copy, Debug, PartialEq, Eq)]
 pub struct Line {
     pub address: u32,
     pub piece: Piece,
@@ -104,21 +95,39 @@ fn meaning<W: fmt::Write>(
             };
             write!(f, "{listing}")
         }
-        Err(Refusal::Undefined) => write!(f, "undefined"),
-        Err(Refusal::Unpredictable) => write!(f, "unpredictable"),
+        Err(refusal) => write!(f, "{refusal}"),
+    }
+}
+
+/// The lines of an image.
+#[derive(Drop)]
+struct Lines<'a> {
+    address: u32,
+    rest: &'a [u8],
+}
+
+impl Iterator for Lines<'_> {
+    type Item = Line;
+
+    ghost remaining = { λ s. at_most (length s.rest.now) };
+
+    fn next(&mut self) -> Option<Line> {
+        let (piece, rest) = split_piece(self.rest)?;
+        let address = self.address;
+        self.address = address.wrapping_add(piece.length());
+        self.rest = rest;
+        Some(Line { address, piece })
     }
 }
 
 /// Prints an image that begins at `base`, a line for each piece.
 pub fn print_image(rt: &impl Print, image: &[u8], base: u32) -> io::Result<()> {
-    let mut address = base;
-    let mut i = 0;
-    while let Some(piece) = piece_at(image, i) {
-        let line = Line { address, piece };
+    let lines = Lines {
+        address: base,
+        rest: image,
+    };
+    for line in lines {
         println!(rt; "{line}")?;
-        let length = piece.length();
-        i += length;
-        address = address.wrapping_add(length as u32);
     }
     Ok(())
 }

@@ -10,14 +10,24 @@ pub struct Register(pub u8);
 impl fmt::Display for Register {
     fn fmt<W: fmt::Write>(&self, f: &mut fmt::Formatter<W>) -> fmt::Result {
         match self.0 {
-            10 => write!(f, "sl"),
-            11 => write!(f, "fp"),
-            12 => write!(f, "ip"),
-            13 => write!(f, "sp"),
-            14 => write!(f, "lr"),
-            15 => write!(f, "pc"),
+            10 => f.write_str("sl"),
+            11 => f.write_str("fp"),
+            12 => f.write_str("ip"),
+            13 => f.write_str("sp"),
+            14 => f.write_str("lr"),
+            15 => f.write_str("pc"),
             n => write!(f, "r{n}"),
         }
+    }
+}
+
+/// A constant as an operand.
+#[derive(Clone, Copy)]
+pub struct Constant(pub u32);
+
+impl fmt::Display for Constant {
+    fn fmt<W: fmt::Write>(&self, f: &mut fmt::Formatter<W>) -> fmt::Result {
+        write!(f, "#{}", self.0)
     }
 }
 
@@ -28,33 +38,31 @@ pub struct List {
     pub extra: Option<u8>,
 }
 
-impl fmt::Display for List {
-    fn fmt<W: fmt::Write>(&self, f: &mut fmt::Formatter<W>) -> fmt::Result {
-        let low = u32::from(self.low);
-        let mut empty = true;
-        write!(f, "{{")?;
-        for i in 0..8u8 {
-            if word::bit(low, u32::from(i)) {
-                part(i, empty, f)?;
-                empty = false;
-            }
-        }
-        if let Some(n) = self.extra {
-            part(n, empty, f)?;
-        }
-        write!(f, "}}")
+impl List {
+    pub fn low(low: u8) -> Self {
+        List { low, extra: None }
     }
 }
 
-/// A register of a list, with a comma unless it is the first.
-fn part<W: fmt::Write>(n: u8, first: bool, f: &mut fmt::Formatter<W>) -> fmt::Result {
-    let register = Register(n);
-    if first {
-        write!(f, "{register}")
-    } else {
-        write!(f, ", {register}")
+impl fmt::Display for List {
+    fn fmt<W: fmt::Write>(&self, f: &mut fmt::Formatter<W>) -> fmt::Result {
+        let low = u32::from(self.low);
+        f.write_str("{")?;
+        for (i, n) in (0..8u8)
+            .filter(|n| word::bit(low, u32::from(*n)))
+            .chain(self.extra)
+            .enumerate()
+        {
+            if i > 0 {
+                f.write_str(", ")?;
+            }
+            write!(f, "{}", Register(n))?;
+        }
+        f.write_str("}")
     }
 }
+
+// The names below are objdump's, so they stand here, and not as `Display` with the types in thumb and word.
 
 /// The mnemonic of a data processing instruction.
 pub fn operation(op: Operation) -> &'static str {

@@ -1,4 +1,5 @@
 // R[n], SP, PC and the mode, as the manual's pseudocode reads and writes them.
+// Functions, since `Registers` stands in arch beside its definitions; a trait with one impl would only repeat each contract.
 ghost use Rattle.std.specs.Prelude.{◌≡◌};
 ghost use Rattle.arch.specs.Registers.{handler as is_handler, privileged as is_privileged, right_of, on_process, sp, with_sp, pc_value, reg, with_reg, moved_on, branch_to, interwork, with_pc};
 

@@ -1,65 +1,48 @@
 // The instructions that compute.
-ghost use Rattle.std.specs.Prelude.{◌≡◌};
+ghost use Rattle.std.specs.Prelude.{◌≡◌, false};
 ghost use Rattle.word.specs.Bitwise.{logic_of};
 ghost use Rattle.word.specs.Fields.{field_of};
 ghost use Rattle.word.specs.Shifts.{shift_c};
-ghost use Rattle.arch.specs.Data.{basic_result, operation_result, unary_value, special_result, difference, shifted, resulted, carry};
+ghost use Rattle.word.specs.Sums.{add_with_carry};
+ghost use Rattle.arch.specs.Data.{basic_result, operation_result, unary_value, special_result, shifted, resulted, carry};
 ghost use Rattle.arch.specs.Registers.{reg, with_reg};
 
 use crate::access::{move_on, register, set_register, set_stack_pointer, stack_pointer};
 use crate::results::{compare, put_result, put_shifted, put_sum, write_to};
 use arch::Registers;
 use thumb::instructions::{Basic, Operation, Special, Unary};
-use word::{Logic, Shift, Sum};
+use word::{Logic, Shift, Sum, difference};
 
-// x - y, as a sum.
-fn subtract(x: u32, y: u32) -> Sum
-    ensures { result ≡ difference x y }
+fn sum(x: u32, y: u32) -> Sum
+    ensures { result ≡ add_with_carry x y false }
 {
-    word::add_with_carry(x, word::not(y), true)
+    word::add_with_carry(x, y, false)
+}
+
+// A shift of `x` into R[d].
+fn shift(r: &mut Registers, d: u8, kind: Shift, x: u32, amount: u32)
+    ensures { r.new ≡ shifted r.old d (shift_c kind x amount (carry r.old)) }
+{
+    let result = word::shift_c(kind, x, amount, r.flags.c);
+    put_shifted(r, d, result);
 }
 
 pub fn basic(r: &mut Registers, instruction: Basic)
     ensures { r.new ≡ basic_result instruction r.old }
 {
-    let carry = r.flags.c;
     match instruction {
-        Basic::Lsl { d, m, by } => put_shifted(
-            r,
-            d,
-            word::shift_c(Shift::Lsl, register(r, m), by, carry),
-        ),
-        Basic::Lsr { d, m, by } => put_shifted(
-            r,
-            d,
-            word::shift_c(Shift::Lsr, register(r, m), by, carry),
-        ),
-        Basic::Asr { d, m, by } => put_shifted(
-            r,
-            d,
-            word::shift_c(Shift::Asr, register(r, m), by, carry),
-        ),
+        Basic::Lsl { d, m, by } => shift(r, d, Shift::Lsl, register(r, m), by),
+        Basic::Lsr { d, m, by } => shift(r, d, Shift::Lsr, register(r, m), by),
+        Basic::Asr { d, m, by } => shift(r, d, Shift::Asr, register(r, m), by),
         Basic::Mov { d, m } => put_result(r, d, register(r, m)),
-        Basic::AddRegister { d, n, m } => put_sum(
-            r,
-            d,
-            word::add_with_carry(register(r, n), register(r, m), false),
-        ),
-        Basic::SubRegister { d, n, m } => put_sum(r, d, subtract(register(r, n), register(r, m))),
-        Basic::AddSmall { d, n, imm } => put_sum(
-            r,
-            d,
-            word::add_with_carry(register(r, n), imm, false),
-        ),
-        Basic::SubSmall { d, n, imm } => put_sum(r, d, subtract(register(r, n), imm)),
+        Basic::AddRegister { d, n, m } => put_sum(r, d, sum(register(r, n), register(r, m))),
+        Basic::SubRegister { d, n, m } => put_sum(r, d, difference(register(r, n), register(r, m))),
+        Basic::AddSmall { d, n, imm } => put_sum(r, d, sum(register(r, n), imm)),
+        Basic::SubSmall { d, n, imm } => put_sum(r, d, difference(register(r, n), imm)),
         Basic::MovByte { d, imm } => put_result(r, d, imm),
-        Basic::CmpByte { n, imm } => compare(r, subtract(register(r, n), imm)),
-        Basic::AddByte { dn, imm } => put_sum(
-            r,
-            dn,
-            word::add_with_carry(register(r, dn), imm, false),
-        ),
-        Basic::SubByte { dn, imm } => put_sum(r, dn, subtract(register(r, dn), imm)),
+        Basic::CmpByte { n, imm } => compare(r, difference(register(r, n), imm)),
+        Basic::AddByte { dn, imm } => put_sum(r, dn, sum(register(r, dn), imm)),
+        Basic::SubByte { dn, imm } => put_sum(r, dn, difference(register(r, dn), imm)),
     }
 }
 
@@ -68,8 +51,7 @@ fn shift_by_register(r: &mut Registers, kind: Shift, dn: u8, m: u8)
     ensures { r.new ≡ shifted r.old dn (shift_c kind (reg r.old dn) (field_of (reg r.old m) 0 8) (carry r.old)) }
 {
     let amount = word::field(register(r, m), 0, 8);
-    let result = word::shift_c(kind, register(r, dn), amount, r.flags.c);
-    put_shifted(r, dn, result);
+    shift(r, dn, kind, register(r, dn), amount);
 }
 
 // A logical operation on R[dn] and R[m].
@@ -104,12 +86,9 @@ pub fn operate(r: &mut Registers, operation: Operation, dn: u8, m: u8)
         Operation::Tst => r.flags = r
             .flags
             .with_result(word::logical(Logic::And, register(r, dn), register(r, m))),
-        Operation::Rsb => put_sum(r, dn, subtract(0, register(r, m))),
-        Operation::Cmp => compare(r, subtract(register(r, dn), register(r, m))),
-        Operation::Cmn => compare(
-            r,
-            word::add_with_carry(register(r, dn), register(r, m), false),
-        ),
+        Operation::Rsb => put_sum(r, dn, difference(0, register(r, m))),
+        Operation::Cmp => compare(r, difference(register(r, dn), register(r, m))),
+        Operation::Cmn => compare(r, sum(register(r, dn), register(r, m))),
         Operation::Orr => combine(r, Logic::Orr, dn, m),
         Operation::Mul => put_result(r, dn, word::mul(register(r, dn), register(r, m))),
         Operation::Bic => combine(r, Logic::Bic, dn, m),
@@ -146,7 +125,7 @@ pub fn special(r: &mut Registers, instruction: Special)
     match instruction {
         Special::Add { dn, m } => write_to(r, dn, register(r, dn).wrapping_add(register(r, m))),
         Special::Cmp { n, m } => {
-            compare(r, subtract(register(r, n), register(r, m)));
+            compare(r, difference(register(r, n), register(r, m)));
             move_on(r, 2);
         }
         Special::Mov { d, m } => write_to(r, d, register(r, m)),

@@ -10,10 +10,7 @@ const NUMBERS: u8 = 48;
 fn rank(r: &Registers, n: u8) -> u8
     ensures { result ≡ slice_index r.now.exceptions.ranks n }
 {
-    match r.exceptions.ranks.get(n as usize) {
-        Some(rank) => *rank,
-        None => 0,
-    }
+    r.exceptions.ranks.get(n as usize).copied().unwrap_or(0)
 }
 
 pub fn priority(r: &Registers, n: u8) -> i32
@@ -84,8 +81,5 @@ pub fn chosen(r: &Registers) -> Option<u8>
     if r.exceptions.pending == 0 {
         return None;
     }
-    match best_pending(r) {
-        Some(n) if priority(r, n) < execution_priority(r) => Some(n),
-        _ => None,
-    }
+    best_pending(r).filter(|&n| priority(r, n) < execution_priority(r))
 }

@@ -2,7 +2,7 @@
 ghost use Rattle.std.specs.Prelude.{◌≡◌};
 ghost use Rattle.arch.specs.Data.{summed, compared, resulted, shifted as shifted_into, written_to};
 
-use crate::access::set_register;
+use crate::access::{branch_to, move_on, set_register};
 use arch::Registers;
 use word::{Flags, Shifted, Sum};
 
@@ -10,7 +10,7 @@ pub fn put_sum(r: &mut Registers, d: u8, sum: Sum)
     ensures { r.new ≡ summed r.old d sum }
 {
     set_register(r, d, sum.value);
-    r.flags = Flags::of_sum(sum);
+    compare(r, sum);
 }
 
 pub fn compare(r: &mut Registers, sum: Sum)
@@ -38,9 +38,9 @@ pub fn write_to(r: &mut Registers, d: u8, value: u32)
     ensures { r.new ≡ written_to r.old d value }
 {
     set_register(r, d, value);
-    r.pc = if d == 15 {
-        value / 2 * 2
+    if d == 15 {
+        branch_to(r, value);
     } else {
-        r.pc.wrapping_add(2)
-    };
+        move_on(r, 2);
+    }
 }
