@@ -1,11 +1,11 @@
 -- How many exceptions a set has.
-use Rattle.std.proofs.Common.{◌≡◌, ℕ, zero, suc, ◌+◌, ◌^◌, ◌<◌, true, false, ◌⊎◌, sym, refl, ap, ◌∙◌, inl, inr, arith, pow_mono}
+use Rattle.std.proofs.Common.{◌≡◌, ℕ, zero, suc, ◌+◌, ◌^◌, ◌<◌, true, false, sym, refl, ap, ◌∙◌, arith, pow_mono}
 use native.Mathlib.Nat.{two-pow-succ, zero-div}
-use lib.Count.{ones, count_trailing_zeros}
-use Rattle.std.proofs.lemmas.Bool.{cases_eq, eq-eqb, lt-ltb, or_right}
+use lib.Count.{ones}
+use Rattle.std.proofs.lemmas.Bool.{eq-eqb, lt-ltb, or_right}
+use Rattle.std.proofs.lemmas.Nat.{zero_from_ones}
 use Rattle.word.specs.Fields.{bit_of}
 use Rattle.word.specs.Sets.{set_with, set_without}
-use Rattle.word.proofs.Lowest.{least_is}
 use Rattle.word.proofs.Members.{mask_is}
 
 below_pow : (n : ℕ) → n < 2 ^ n
@@ -42,14 +42,7 @@ ones_empty = refl
 
 -- a set without members is 0
 pub ones_none : (set : ℕ) → ones set ≡ 0 → set ≡ 0
-ones_none set none = go (cases_eq set 0)
-  where
-    go : (set ≡ 0) ⊎ (set ≡ 0 → ⊥) → set ≡ 0
-    go (inl e) = e
-    go (inr some) =
-        let least = least_is set set (omega arith) (below_pow set) in
-        let fewer = ones_without set (count_trailing_zeros set set) least.member in
-        absurd (omega arith)
+ones_none = zero_from_ones
 
 pub bit_zero : (k : ℕ) → bit_of 0 k ≡ false
 bit_zero k = rw zero-div

@@ -2,14 +2,11 @@
 #![tactic(auto)]
 
 mod error;
-mod pile;
-mod play;
-mod report;
-mod script;
-mod story;
 
 use crate::error::HubError;
-use crate::pile::{FLASH_BASE, FLASH_SIZE, RAM_BASE, RAM_SIZE};
+use bus::{Bus, Right, Width};
+use memory::{FLASH_BASE, FLASH_SIZE, Trouble};
+use parts::Strip;
 use std::process::ExitCode;
 use std::{env, fs};
 
@@ -25,45 +22,50 @@ fn main(rt: HostRuntime) -> ExitCode {
 
 // Plays the script that the first argument names, or else the story.
 fn run(rt: &HostRuntime) -> Result<(), HubError> {
-    let mut args = env::args(rt)?;
+    let mut args = env::args(rt).map_err(Trouble::from)?;
     match args.nth(1) {
         Some(path) => {
             let text = read_script(rt, path)?;
             show(rt, text.as_str())
         }
-        None => show(rt, story::STORY),
+        None => show(rt, script::STORY),
     }
 }
 
 fn read_script(rt: &HostRuntime, path: String) -> Result<String, HubError> {
-    match fs::read_to_string(rt, path.as_str()) {
-        Ok(text) => Ok(text),
-        Err(error) => Err(HubError::Unreadable(path, error)),
-    }
+    let text = fs::read_to_string(rt, path.as_str());
+    text.map_err(|error| HubError::Unreadable(path, error))
 }
 
 fn show(rt: &HostRuntime, script: &str) -> Result<(), HubError> {
-    let heap = rt.alloc();
-    let mut flash = vec![in heap; 0u8; FLASH_SIZE as usize]?;
-    let mut ram = vec![in heap; 0u8; RAM_SIZE as usize]?;
-    pile::burn(&mut flash)?;
-    let flash_before = flash.clone()?;
-    let ram_before = ram.clone()?;
-    let mut hub = pile::build(&mut flash, &mut ram)?;
-    report::print_map(rt)?;
-    let tally = play::play(rt, &mut hub, script)?;
-    println!(rt)?;
-    report::print_tally(rt, tally)?;
-    println!(rt; "\nPanel")?;
-    for line in 0..4u32 {
-        let first = line * 4;
-        report::print_words(rt, first, pile::panel_words(&hub, first)?)?;
-    }
-    println!(rt; "\nBytes that changed")?;
-    report::print_changes(rt, FLASH_BASE, &flash_before, &flash)?;
-    report::print_changes(rt, RAM_BASE, &ram_before, &ram)?;
-    if flash == flash_before && ram == ram_before {
-        println!(rt; "  none")?;
-    }
+    let image = image()?;
+    script::show_with(rt, &image, script, |hub| memory::print_panel(rt, hub))?;
     Ok(())
+}
+
+// What flash holds where nothing was written.
+const ERASED: u8 = 0xff;
+
+// The words of the image that are not erased, with their addresses.
+const WORDS: [(u32, u32); 7] = [
+    // the vectors: the end of the RAM, and the supervisor's first instruction (bit 0 says Thumb)
+    (0x000, 0x2000_2000),
+    (0x004, 0x0000_0101),
+    // the supervisor: nop, and a branch to itself
+    (0x100, 0xe7fe_bf00),
+    // both schedules: ldr r0, [r1]; str r0, [r2]; nop; back to the first
+    (0x400, 0x6010_6808),
+    (0x404, 0xe7fb_bf00),
+    (0x800, 0x6010_6808),
+    (0x804, 0xe7fb_bf00),
+];
+
+// The image, as flash that is not yet read-only takes its words.
+fn image() -> Result<[u8; FLASH_SIZE as usize], HubError> {
+    let mut image = [ERASED; FLASH_SIZE as usize];
+    let mut blank = Strip::new(&mut image, FLASH_BASE, 0)?;
+    for (address, word) in WORDS {
+        blank.write(Width::Word, Right::Privileged, address, word)?;
+    }
+    Ok(image)
 }

@@ -1,46 +1,32 @@
 // What ends the program early.
 use memory::Trouble;
 use std::alloc::AllocError;
-use std::{fmt, io};
+use std::io;
+use thiserror::Error;
 
-#[derive(Drop)]
+#[derive(Debug, Drop, Error)]
 pub enum HubError {
     // the command line, in the words of its mistake
+    #[error("{0}; see `hub --help`")]
     Usage(String),
+    #[error("cannot read `{0}`: {1}")]
     Unreadable(String, io::Error),
     // an image with so many bytes
+    #[error("`{0}` has {1} bytes: an image has at most 4096")]
     TooLong(String, usize),
-    Trouble(Trouble),
+    #[error(transparent)]
+    Trouble(#[from] Trouble),
 }
 
-impl From<Trouble> for HubError {
-    fn from(trouble: Trouble) -> HubError {
-        HubError::Trouble(trouble)
-    }
-}
-
+// The program runs out of memory, or fails to print, as work on a hub does.
 impl From<AllocError> for HubError {
-    fn from(_error: AllocError) -> HubError {
-        HubError::Trouble(Trouble::OutOfMemory)
+    fn from(error: AllocError) -> HubError {
+        HubError::Trouble(Trouble::from(error))
     }
 }
 
 impl From<io::Error> for HubError {
     fn from(error: io::Error) -> HubError {
-        HubError::Trouble(Trouble::Silent(error))
-    }
-}
-
-impl fmt::Display for HubError {
-    fn fmt<W: fmt::Write>(&self, f: &mut fmt::Formatter<W>) -> fmt::Result {
-        match self {
-            HubError::Usage(mistake) => write!(f, "{mistake}; see `hub --help`"),
-            HubError::Unreadable(path, error) => write!(f, "cannot read `{path}`: {error}"),
-            HubError::TooLong(path, length) => write!(
-                f,
-                "`{path}` has {length} bytes: an image has at most 4096"
-            ),
-            HubError::Trouble(trouble) => write!(f, "{trouble}"),
-        }
+        HubError::Trouble(Trouble::from(error))
     }
 }

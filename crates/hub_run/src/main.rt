@@ -12,7 +12,7 @@ use image::IMAGE;
 use memory::FLASH_SIZE;
 use options::{Asked, Options};
 use std::process::ExitCode;
-use std::{env, fs};
+use std::{env, fs, io};
 
 const HELP: &str = "\
 hub                        run the built-in image
@@ -65,10 +65,7 @@ fn run_image(rt: &HostRuntime, options: Options<'_>) -> Result<(), HubError>
 fn read_image(rt: &HostRuntime, path: &str) -> Result<Vec<u8>, HubError>
     ensures { IfOk result (λ image. vec_len image ≤ 4096) }
 {
-    let image = match fs::read(rt, path) {
-        Ok(image) => image,
-        Err(error) => return Err(HubError::Unreadable(String::from_str(rt.alloc(), path)?, error)),
-    };
+    let image = fs::read(rt, path).map_err(|error| unreadable(rt, path, error))?;
     if image.len() > FLASH_SIZE as usize {
         return Err(HubError::TooLong(String::from_str(rt.alloc(), path)?, image.len()));
     }
@@ -78,13 +75,17 @@ fn read_image(rt: &HostRuntime, path: &str) -> Result<Vec<u8>, HubError>
 fn play_script(rt: &HostRuntime, file: Option<&str>) -> Result<(), HubError> {
     match file {
         None => script::show(rt, &IMAGE, script::STORY)?,
-        Some(path) => match fs::read_to_string(rt, path) {
-            Ok(text) => script::show(rt, &IMAGE, text.as_str())?,
-            Err(error) => return Err(HubError::Unreadable(
-                String::from_str(rt.alloc(), path)?,
-                error,
-            )),
-        },
+        Some(path) => {
+            let text = fs::read_to_string(rt, path).map_err(|error| unreadable(rt, path, error))?;
+            script::show(rt, &IMAGE, text.as_str())?;
+        }
     }
     Ok(())
+}
+
+fn unreadable(rt: &HostRuntime, path: &str, error: io::Error) -> HubError {
+    match String::from_str(rt.alloc(), path) {
+        Ok(path) => HubError::Unreadable(path, error),
+        Err(full) => HubError::from(full),
+    }
 }

@@ -14,6 +14,7 @@ use bus::{Bus, Fault};
 use cpu::{Core, Failure};
 use memory::{Flat, Trouble};
 use parts::RegionCheck;
+use std::alloc::AllocError;
 use std::io;
 
 // What a turn came to.
@@ -59,7 +60,7 @@ fn make<B: Bus>(
     match cpu::perform(rt.alloc(), core, bus, calls) {
         Ok(answers) => Ok(Played::Answered(answers)),
         Err(Failure::ResetRefused(fault)) => Ok(Played::ResetRefused(fault)),
-        Err(Failure::OutOfMemory) => Err(Trouble::OutOfMemory),
+        Err(Failure::OutOfMemory) => Err(Trouble::OutOfMemory(AllocError)),
     }
 }
 

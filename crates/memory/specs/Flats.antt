@@ -30,19 +30,21 @@ abbrev pub panel_word : Flat → ℕ
 panel_word One = 0
 panel_word Two = 8
 
--- all may read a running flat's code; a waiting flat's is for the supervisor alone
+-- the rights of a region that has `running` while its flat runs: while the flat waits it is for the supervisor alone
+abbrev pub rights_in : Turn → ℕ → ℕ
+rights_in Runs running = running
+rights_in Waits running = 1
+
+-- all may read a running flat's code
 abbrev pub code_rights : Turn → ℕ
-code_rights Runs = 6
-code_rights Waits = 1
+code_rights turn = rights_in turn 6
 
+-- and write its RAM and its panel words
 abbrev pub ram_rights : Turn → ℕ
-ram_rights Runs = 3
-ram_rights Waits = 1
+ram_rights turn = rights_in turn 3
 
--- a waiting flat's panel words are for the supervisor alone
 abbrev pub panel_rights : Turn → ℕ
-panel_rights Runs = 3
-panel_rights Waits = 1
+panel_rights turn = rights_in turn 3
 
 -- the eighths of the panel's region that are not the flat's
 abbrev pub panel_marks : Flat → ℕ

@@ -2,20 +2,17 @@
 ghost use Rattle.std.specs.Prelude.{◌≡◌};
 ghost use Rattle.memory.specs.Flats.{flat_number, neighbour, code_base, ram_base, panel_word, first_region};
 
-#[derive(Clone, Copy)]
+#[derive(Clone, Copy, Debug, PartialEq, Eq)]
 pub enum Flat {
-    One,
-    Two,
+    One = 1,
+    Two = 2,
 }
 
 impl Flat {
     pub fn number(self) -> u32
         ensures { result ≡ flat_number self }
     {
-        match self {
-            Flat::One => 1,
-            Flat::Two => 2,
-        }
+        self as u32
     }
 
     pub(crate) fn neighbour(self) -> Flat
@@ -27,6 +24,7 @@ impl Flat {
         }
     }
 
+    // Where a flat's things lie is read off as in a table: arithmetic on its number would say it less plainly.
     pub fn code_base(self) -> u32
         ensures { result ≡ code_base self }
     {

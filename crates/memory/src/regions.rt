@@ -1,7 +1,7 @@
 // The regions that the supervisor's host sets for the flats: the running flat's are open, the waiting one's shut.
 ghost use Rattle.std.specs.Prelude.{◌≡◌, true, Ok};
 ghost use Rattle.bus.specs.Memory.{load};
-ghost use Rattle.memory.specs.Flats.{flat_number, neighbour, code_region, ram_region, panel_region, flat_regions, both_wait, handed_to, Spare, Shut};
+ghost use Rattle.memory.specs.Flats.{flat_number, neighbour, rights_in, code_region, ram_region, panel_region, flat_regions, both_wait, handed_to, Spare, Shut};
 ghost use Rattle.memory.specs.Prepared.{hub_world, prepared_world};
 
 use crate::flats::Flat;
@@ -46,19 +46,31 @@ pub fn prepare<B: Bus>(hub: &mut RegionCheck<B>, flat: Flat) -> Result<(), Troub
     Ok(())
 }
 
-// Whether a flat's schedule is the one that runs.
-#[derive(Clone, Copy)]
-enum Turn {
-    Runs,
-    Waits,
-}
-
 // The codes of the rights that the regions are set to.
 const SUPERVISOR_ONLY: u8 = 1;
 
 const ALL_WRITE: u8 = 3;
 
 const ALL_READ: u8 = 6;
+
+// Whether a flat's schedule is the one that runs.
+#[derive(Clone, Copy, Debug, PartialEq, Eq)]
+enum Turn {
+    Runs,
+    Waits,
+}
+
+impl Turn {
+    // The rights of a region that has these while its flat runs, and is the supervisor's alone while it waits.
+    fn rights(self, running: u8) -> u8
+        ensures { result ≡ rights_in self running }
+    {
+        match self {
+            Turn::Runs => running,
+            Turn::Waits => SUPERVISOR_ONLY,
+        }
+    }
+}
 
 // Three regions to a flat: its code, its RAM, its panel words.
 fn set_flat<B: Bus>(hub: &mut RegionCheck<B>, flat: Flat, turn: Turn) -> Result<(), Refusal>
@@ -79,10 +91,7 @@ fn code_region(flat: Flat, turn: Turn) -> Setting
         on: true,
         base: flat.code_base(),
         exponent: 10,
-        code: match turn {
-            Turn::Runs => ALL_READ,
-            Turn::Waits => SUPERVISOR_ONLY,
-        },
+        code: turn.rights(ALL_READ),
         no_fetch: false,
         sub_marks: 0,
     }
@@ -95,10 +104,7 @@ fn ram_region(flat: Flat, turn: Turn) -> Setting
         on: true,
         base: flat.ram_base(),
         exponent: 10,
-        code: match turn {
-            Turn::Runs => ALL_WRITE,
-            Turn::Waits => SUPERVISOR_ONLY,
-        },
+        code: turn.rights(ALL_WRITE),
         no_fetch: true,
         sub_marks: 0,
     }
@@ -113,10 +119,7 @@ fn panel_region(flat: Flat, turn: Turn) -> Setting
         on: true,
         base: PANEL_BASE,
         exponent: 8,
-        code: match turn {
-            Turn::Runs => ALL_WRITE,
-            Turn::Waits => SUPERVISOR_ONLY,
-        },
+        code: turn.rights(ALL_WRITE),
         no_fetch: true,
         sub_marks: match flat {
             Flat::One => 0b1111_1110,

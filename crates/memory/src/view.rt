@@ -1,6 +1,7 @@
 // Words of the memory, as the host sees and shows them.
 ghost use Rattle.std.specs.Prelude.{◌≡◌};
 
+use crate::pile::PANEL_BASE;
 use crate::trouble::Trouble;
 use bus::{Bus, Right, Width};
 
@@ -14,15 +15,41 @@ pub fn print_words<B: Bus>(
     ensures contents { B.Bus.bytes bus.new ≡ B.Bus.bytes bus.old }
     ensures settled { B.Bus.settings bus.new ≡ B.Bus.settings bus.old }
 {
-    let mut at = address;
-    for _ in 0..lines {
-        print!(rt; "  0x{at:08x} ")?;
-        for _ in 0..4 {
-            let word = bus.read(Width::Word, Right::Privileged, at)?;
-            print!(rt; " 0x{word:08x}")?;
-            at = at.wrapping_add(4);
-        }
-        println!(rt)?;
+    for line in 0..lines {
+        let first = address.wrapping_add(line.wrapping_mul(16));
+        print!(rt; "  0x{first:08x} ")?;
+        print_four(rt, bus, first, " ")?;
     }
+    Ok(())
+}
+
+// Prints the panel's sixteen words, four to a line, with the number of the first.
+pub fn print_panel<B: Bus>(rt: &HostRuntime, bus: &mut B) -> Result<(), Trouble>
+    ensures contents { B.Bus.bytes bus.new ≡ B.Bus.bytes bus.old }
+    ensures settled { B.Bus.settings bus.new ≡ B.Bus.settings bus.old }
+{
+    for line in 0..4u32 {
+        let first = 4 * line;
+        print!(rt; "  {first:>2}")?;
+        print_four(rt, bus, PANEL_BASE + 4 * first, "  ")?;
+    }
+    Ok(())
+}
+
+// Prints four words, each after a gap, and ends the line.
+fn print_four<B: Bus>(
+    rt: &HostRuntime,
+    bus: &mut B,
+    address: u32,
+    gap: &str,
+) -> Result<(), Trouble>
+    ensures contents { B.Bus.bytes bus.new ≡ B.Bus.bytes bus.old }
+    ensures settled { B.Bus.settings bus.new ≡ B.Bus.settings bus.old }
+{
+    for offset in [0, 4, 8, 12] {
+        let word = bus.read(Width::Word, Right::Privileged, address.wrapping_add(offset))?;
+        print!(rt; "{gap}0x{word:08x}")?;
+    }
+    println!(rt)?;
     Ok(())
 }

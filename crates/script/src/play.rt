@@ -9,16 +9,18 @@ use commands::{Command, Request, is_remark, read_line};
 use memory::Trouble;
 use parts::RegionCheck;
 
-// What an access came to.
-#[derive(Clone, Copy)]
-pub enum Answer {
-    Value(Width, u32),
-    Written,
-    Refused(Fault),
+// What a read or a fetch answered.
+#[derive(Clone, Copy, Debug, PartialEq, Eq)]
+pub struct Value {
+    pub width: Width,
+    pub value: u32,
 }
 
+// What an access came to: a write that passes has no value.
+pub type Answer = Result<Option<Value>, Fault>;
+
 // What a line came to.
-#[derive(Clone, Copy)]
+#[derive(Clone, Copy, Debug, PartialEq, Eq)]
 pub enum Outcome {
     Allowed,
     Refused,
@@ -26,19 +28,16 @@ pub enum Outcome {
     Bad,
 }
 
-impl Answer {
-    fn outcome(self) -> Outcome
-        ensures { result ≡ outcome_of self }
-    {
-        match self {
-            Answer::Value(_, _) => Outcome::Allowed,
-            Answer::Written => Outcome::Allowed,
-            Answer::Refused(_) => Outcome::Refused,
-        }
+fn outcome_of(answer: Answer) -> Outcome
+    ensures { result ≡ outcome_of answer }
+{
+    match answer {
+        Ok(_) => Outcome::Allowed,
+        Err(_) => Outcome::Refused,
     }
 }
 
-#[derive(Clone, Copy)]
+#[derive(Clone, Copy, Debug, PartialEq, Eq)]
 pub struct Tally {
     pub allowed: u64,
     pub refused: u64,
@@ -104,7 +103,7 @@ fn play_line<B: Bus>(
         Ok(Command::Ask(request)) => {
             let answer = ask(hub, request);
             report::print_request(rt, number, request, answer)?;
-            Ok(answer.outcome())
+            Ok(outcome_of(answer))
         }
         Ok(Command::HandTo(flat)) => {
             memory::hand_to(hub, flat)?;
@@ -122,12 +121,13 @@ fn ask<B: Bus>(bus: &mut B, request: Request) -> Answer
     ensures value { result ≡ answered request.access.usage (answer (B.Bus.verdict bus.old request.access) (replied (B.Bus.bytes bus.old) request.access)) }
     ensures contents { B.Bus.bytes bus.new ≡ after (B.Bus.verdict bus.old request.access) (written (B.Bus.bytes bus.old) request.access request.value) (B.Bus.bytes bus.old) }
 {
-    match bus.access(request.access, request.value) {
-        Err(fault) => Answer::Refused(fault),
-        Ok(value) => match request.access.usage {
-            Use::Fetch => Answer::Value(Width::Half, value),
-            Use::Read(width) => Answer::Value(width, value),
-            Use::Write(_) => Answer::Written,
-        },
+    let value = bus.access(request.access, request.value)?;
+    match request.access.usage {
+        Use::Write(_) => Ok(None),
+        Use::Read(width) => Ok(Some(Value { width, value })),
+        Use::Fetch => Ok(Some(Value {
+            width: Width::Half,
+            value,
+        })),
     }
 }

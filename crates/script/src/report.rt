@@ -2,25 +2,17 @@
 ghost use Rattle.std.specs.Prelude.{◌≡◌, ℕ, ◌<◌, ◌≤◌, length, ◌≢◌, slice_index};
 ghost use Rattle.script.specs.Words.{flat_words};
 
-use crate::play::{Answer, Tally};
+use crate::play::{Answer, Tally, Value};
 use commands::{Mistake, Request, digits};
 use memory::{FLASH_BASE, FLASH_SIZE, Flat, PANEL_BASE, RAM_BASE, RAM_SIZE};
 use std::{fmt, io};
 use terms::FaultText;
 
-impl fmt::Display for Answer {
+impl fmt::Display for Value {
     fn fmt<W: fmt::Write>(&self, f: &mut fmt::Formatter<W>) -> fmt::Result {
-        match self {
-            Answer::Written => write!(f, "written"),
-            Answer::Value(width, value) => {
-                let digits = digits(*width);
-                write!(f, "0x{value:0digits$x}")
-            }
-            Answer::Refused(fault) => {
-                let text = FaultText(*fault);
-                write!(f, "refused: {text}")
-            }
-        }
+        let value = self.value;
+        let digits = digits(self.width);
+        write!(f, "0x{value:0digits$x}")
     }
 }
 
@@ -49,7 +41,15 @@ pub fn print_request(
     answer: Answer,
 ) -> io::Result<()> {
     let asked = format!(in rt.alloc(); "{request}")?;
-    println!(rt; "{number:>4}  {asked:<49}  {answer}")
+    print!(rt; "{number:>4}  {asked:<49}  ")?;
+    match answer {
+        Ok(Some(value)) => println!(rt; "{value}"),
+        Ok(None) => println!(rt; "written"),
+        Err(fault) => {
+            let fault = FaultText(fault);
+            println!(rt; "refused: {fault}")
+        }
+    }
 }
 
 pub fn print_handing(rt: &HostRuntime, number: usize, flat: Flat) -> io::Result<()> {
@@ -85,18 +85,22 @@ const TO_A_LINE: usize = 16;
 
 // Prints the bytes from `base` on that changed, neighbours on one line.
 pub fn print_changes(rt: &HostRuntime, base: u32, before: &[u8], after: &[u8]) -> io::Result<()> {
-    let mut at = 0;
-    while at < before.len() && at < after.len() {
-        let count = leading_changes(&before[at..], &after[at..]).min(TO_A_LINE);
-        if count == 0 {
-            at += 1;
-        } else {
-            let address = u64::from(base).saturating_add(at as u64);
-            let old = Bytes(&before[at..at + count]);
-            let new = Bytes(&after[at..at + count]);
+    let (mut before, mut after) = (before, after);
+    let mut address = u64::from(base);
+    while !before.is_empty() && !after.is_empty() {
+        let changed = leading_changes(before, after).min(TO_A_LINE);
+        // a byte that did not change is passed over
+        let passed = changed.max(1);
+        let (old, old_rest) = before.split_at(passed);
+        let (new, new_rest) = after.split_at(passed);
+        if changed > 0 {
+            let old = Bytes(old);
+            let new = Bytes(new);
             println!(rt; "  0x{address:08x}  before{old}  after{new}")?;
-            at += count;
         }
+        before = old_rest;
+        after = new_rest;
+        address = address.saturating_add(passed as u64);
     }
     Ok(())
 }
@@ -108,12 +112,8 @@ fn leading_changes(before: &[u8], after: &[u8]) -> usize
     ensures kept { result < length before.now → result < length after.now → slice_index before.now result ≡ slice_index after.now result }
 {
     let shorter = before.len().min(after.len());
-    for index in 0..shorter {
-        if before[index] == after[index] {
-            return index;
-        }
-    }
-    shorter
+    let mut pairs = before.iter().zip(after.iter());
+    pairs.position(|(old, new)| old == new).unwrap_or(shorter)
 }
 
 // Bytes in hexadecimal, a blank before each.

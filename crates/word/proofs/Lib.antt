@@ -1,6 +1,5 @@
 pub mod Asr
 pub mod EachBit
-pub mod Lowest
 pub mod Members
 pub mod Moves
 pub mod Overflow

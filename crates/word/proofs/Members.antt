@@ -1,25 +1,22 @@
 -- One bit put into a word, or taken out of it.
-use Rattle.std.proofs.Common.{◌≡◌, ℕ, zero, suc, ◌+◌, ◌-◌, ◌*◌, ◌/◌, ◌%◌, ◌^◌, ◌<◌, ◌≤◌, Bool, true, false, cond, not, ◌&&◌, ◌||◌, eqb, ltb, sym, refl, ap, ◌∙◌, inl, inr, add-zero, mod-lt, mod-eq_of_lt, add-mul, one-mul, arith, pow_pos, pow-add}
-use lib.Bits.{bit_and, bit_or, and_high, and_step, and_zero_r, or_add_and, or_zero_r}
+use Rattle.std.proofs.Common.{◌≡◌, ℕ, zero, suc, ◌+◌, ◌-◌, ◌*◌, ◌/◌, ◌%◌, ◌^◌, ◌<◌, ◌≤◌, Bool, true, false, cond, not, ◌&&◌, ◌||◌, eqb, ltb, sym, refl, ap, ◌∙◌, inl, inr, add-zero, mod-lt, mod-eq_of_lt, add-mul, one-mul, arith, pow_pos}
+use lib.Bits.{bit_and, bit_or, and_step, and_zero_r, or_add_and, or_zero_r}
 use lib.Count.{ones, ones_cat, ones_step}
 use lib.Pow.{high, pow-lt, split}
 use native.Mathlib.Nat.{two-pow-succ}
-use Rattle.std.proofs.lemmas.Bool.Decides.{leb_tells, nat_tests}
+use Rattle.std.proofs.lemmas.Bool.Decides.{eqb_tells, leb_tells, nat_tests}
+use Rattle.std.proofs.lemmas.Nat.Bits.{and_pow, bit_at-pow_other, bit_at-pow_same}
 use Rattle.word.proofs.EachBit.{bit_of-or}
-use Rattle.word.proofs.Moves.{bit_shl, shl_past}
+use Rattle.word.proofs.Moves.{shl_past}
 use Rattle.word.proofs.Widths.{none_above}
 use Rattle.word.specs.Fields.{bit_of}
 use Rattle.word.specs.Sets.{Added, Mask, Removed, set_with, set_without}
 
-lone : (m : ℕ) → bit_of 1 m ≡ eqb m 0
-lone zero = refl
-lone (suc m) = grind (arith, nat_tests, none_above 1 1 (suc m) (omega arith) (omega arith))
-
 bit_one : (k j : ℕ) → bit_of (2 ^ k) j ≡ eqb j k
-bit_one k j = (rw one-mul at (bit_shl 1 k j)) ∙ grind (arith, nat_tests, lone (j - k))
-
-and_one : (x k : ℕ) → bit_and x (2 ^ k) ≡ x / 2 ^ k % 2 * 2 ^ k
-and_one x k = let e : 2 ^ (1 + k) - 2 ^ k ≡ 2 ^ k = omega (arith, pow-add 2 1 k) in rw e at (and_high x 1 k)
+bit_one k j = elim (eqb_tells j k) [
+  | inl p ↦ rw p.1 (grind (arith, nat_tests, bit_at-pow_same k))
+  | inr p ↦ grind (arith, nat_tests, bit_at-pow_other k j p.1)
+]
 
 -- the bits of a that b lacks, and those that it has
 parts : (w a b : ℕ) → a < 2 ^ w → b < 2 ^ w → bit_and a (2 ^ w - 1 - b) + bit_and a b ≡ a
@@ -44,7 +41,7 @@ ones_more x k e =
     omega (arith, old, new, ones_step q, ones_step (q + 1), ap ones same)
 
 or_one : (x k : ℕ) → bit_or x (2 ^ k) ≡ cond (bit_of x k) x (x + 2 ^ k)
-or_one x k = grind (arith, nat_tests, or_add_and x (2 ^ k), and_one x k)
+or_one x k = grind (arith, nat_tests, or_add_and x (2 ^ k), and_pow x k)
 
 bit_more : (x k : ℕ) → bit_of x k ≡ false → (j : ℕ) → bit_of (x + 2 ^ k) j ≡ (bit_of x j || eqb j k)
 bit_more x k e j = rw (or_one x k, e, bit_one) at (bit_of-or x (2 ^ k) j)
@@ -69,7 +66,7 @@ module _ (w x k : ℕ) (h : x < 2 ^ w) where
   has_is : not (eqb (bit_and x (2 ^ k % 2 ^ w)) 0) ≡ bit_of x k
   has_is = elim (leb_tells w k) [
     | inl p ↦ rw (mask_none w k p.1, and_zero_r, none_above x w k h p.1)
-    | inr p ↦ rw (mask_some w k p.1, and_one) (grind (arith, nat_tests, pow_pos k))
+    | inr p ↦ rw (mask_some w k p.1, and_pow) (grind (arith, nat_tests, pow_pos k))
   ]
 
   with_is : bit_or x (2 ^ k % 2 ^ w) ≡ set_with w x k
@@ -81,7 +78,7 @@ module _ (w x k : ℕ) (h : x < 2 ^ w) where
   without_is : bit_and x (2 ^ w - 1 - 2 ^ k % 2 ^ w) ≡ set_without x k
   without_is = elim (leb_tells w k) [
     | inl p ↦ rw (mask_none w k p.1) (grind (arith, nat_tests, none_above x w k h p.1, parts w x 0 h (pow_pos w), and_zero_r x))
-    | inr p ↦ rw (mask_some w k p.1) (grind (arith, nat_tests, parts w x (2 ^ k) h (pow-lt p.1), and_one x k))
+    | inr p ↦ rw (mask_some w k p.1) (grind (arith, nat_tests, parts w x (2 ^ k) h (pow-lt p.1), and_pow x k))
   ]
 
 added : (w x k : ℕ) → Added w x k (set_with w x k)

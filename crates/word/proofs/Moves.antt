@@ -1,10 +1,10 @@
 -- Where the bits of a word go when it is moved, cut or extended.
-use Rattle.std.proofs.Common.{◌≡◌, ℕ, suc, ◌+◌, ◌-◌, ◌*◌, ◌/◌, ◌%◌, ◌^◌, ◌<◌, ◌≤◌, min, Bool, true, false, ◌&&◌, leb, sym, ◌∙◌, inl, inr, mul_assoc, add_comm, arith, pow_pos, pow-add, shr-shr}
+use Rattle.std.proofs.Common.{◌≡◌, ℕ, suc, ◌+◌, ◌-◌, ◌*◌, ◌/◌, ◌%◌, ◌^◌, ◌<◌, ◌≤◌, min, Bool, true, false, ◌&&◌, leb, eqb, ap, ◌∙◌, inl, inr, mul_assoc, add_comm, arith, pow-add, shr-shr}
 use lib.Bits.{shifted_even}
-use lib.Pow.{field, high, mod-mod-pow, shl-shr, low}
-use native.Mathlib.Nat.{mul-mod_left, sub-zero, zero-div}
-use Rattle.std.proofs.lemmas.Bool.Decides.{leb_tells}
-use Rattle.word.proofs.EachBit.{bit_not}
+use lib.Pow.{field, mod-mod-pow, shl-shr}
+use native.Mathlib.Nat.{mul-mod_left, zero-div}
+use Rattle.std.proofs.lemmas.Bool.Decides.{leb_tells, nat_tests}
+use Rattle.std.proofs.lemmas.Nat.Bits.{bit_at_cat_high, bit_at_cat_low, bit_at_ones}
 use Rattle.word.specs.Extend.{replicate, sign_extend}
 use Rattle.word.specs.Fields.{bit_of}
 
@@ -32,26 +32,19 @@ bit_shl x n k = elim (leb_tells n k) [
   | inr p ↦ let e : suc (n - k - 1) + k ≡ n = omega (arith, p.1) in rw p.0 (rw e at (shl_under x (n - k - 1) k))
 ]
 
-bit_above : (r w x k : ℕ) → x < 2 ^ w → bit_of (r * 2 ^ w + x) (w + k) ≡ bit_of r k
-bit_above r w x k h = rw (← shr-shr (r * 2 ^ w + x) w k, high r w h)
-
-bit_below : (r w x k : ℕ) → x < 2 ^ w → k < w → bit_of (r * 2 ^ w + x) k ≡ bit_of x k
-bit_below r w x k h less = sym (bit_cut (r * 2 ^ w + x) w k less) ∙ rw (low r w h)
-
 bit_replicate : (b : Bool) (n k : ℕ) → k < n → bit_of (replicate b n) k ≡ b
-bit_replicate true n k h = rw (sub-zero, zero-div) at (bit_not 0 n k (pow_pos n) h)
+bit_replicate true n k h = grind (arith, nat_tests, bit_at_ones n k h)
 bit_replicate false n k h = rw zero-div
 
 -- a word extended by its sign has its top bit in every place above
 pub bit_extend : (w n x k : ℕ) → 0 < w → w ≤ n → x < 2 ^ w → k < n → bit_of (sign_extend w n x) k ≡ bit_of x (min k (w - 1))
 bit_extend w n x k h wide below less = elim (leb_tells w k) [
   | inl p ↦
-      let e : w + (k - w) ≡ k = omega (arith, p.1) in
       let m : min k (w - 1) ≡ w - 1 = omega (arith, p.1) in
-      rw m ((rw e at (bit_above (replicate (bit_of x (w - 1)) (n - w)) w x (k - w) below)) ∙ bit_replicate (bit_of x (w - 1)) (n - w) (k - w) (omega (arith, p.1)))
+      rw m (ap (λ (d : ℕ). eqb d 1) (bit_at_cat_high (replicate (bit_of x (w - 1)) (n - w)) w x k below p.1) ∙ bit_replicate (bit_of x (w - 1)) (n - w) (k - w) (omega (arith, p.1)))
   | inr p ↦
       let m : min k (w - 1) ≡ k = omega (arith, p.1) in
-      rw m (bit_below (replicate (bit_of x (w - 1)) (n - w)) w x k below p.1)
+      rw m (ap (λ (d : ℕ). eqb d 1) (bit_at_cat_low (replicate (bit_of x (w - 1)) (n - w)) w x k p.1))
 ]
 
 -- a word moved past its width leaves nothing
