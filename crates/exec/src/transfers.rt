@@ -50,7 +50,8 @@ fn load<B: Bus>(
     Ok(Flow::Ran)
 }
 
-// A load of the low `bits` bits of what is read, with their sign.
+// A load of the low `bits` bits of what is read, with their sign. One load with a closure for the sign would promise less:
+// a closure's contract is a relation, and the definition takes a function.
 fn load_signed<B: Bus>(
     r: &mut Registers,
     bus: &mut B,
