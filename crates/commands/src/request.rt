@@ -30,11 +30,7 @@ fn width_word(width: Width) -> &'static str
 pub fn digits(width: Width) -> usize
     ensures { result ≡ 2 * size width }
 {
-    match width {
-        Width::Byte => 2,
-        Width::Half => 4,
-        Width::Word => 8,
-    }
+    2 * width.size() as usize
 }
 
 impl fmt::Display for Request {
