@@ -7,6 +7,7 @@ use crate::parse::Request;
 use bus::{Right, Use, Width};
 use std::fmt;
 
+// Words that a contract states are functions: of what a Display writes no contract speaks.
 fn right_word(right: Right) -> &'static str
     ensures { result.now ≡ right_word right }
 {
