@@ -2,7 +2,7 @@
 use Rattle.std.proofs.Common.{◌≡◌, ℕ, zero, suc, ◌<◌, ◌≤◌, Bool, true, false, cond, ◌&&◌, eqb, leb, ◌⊎◌, ℤ, pos, negsuc, Some, None, Option, refl, ap, ◌∙◌, subst, inl, inr, arith}
 use lib.Signed.{lt_z}
 use Rattle.std.proofs.lemmas.Int.{ints}
-use Rattle.std.proofs.lemmas.Bool.{and_parts, leb-true, cases_eq, both_ways, or_parts}
+use Rattle.std.proofs.lemmas.Bool.{and_parts, leb-true, cases_eq, both_ways, or_parts, false_from_ne_true}
 use Rattle.std.specs.Int.{int_min}
 use Rattle.word.specs.Fields.{bit_of}
 use Rattle.arch.specs.Entry.{is_last}
@@ -69,10 +69,6 @@ pub record Takeable (s : Registers) (n : ℕ) : Type 0 where
   -- HardFault can take its place
   pub fallback : is_last n ≡ false → bit_of s.exceptions.active 3 ≡ false
 
-inactive_at : (b : Bool) → (b ≡ true → ⊥) → b ≡ false
-inactive_at true no_way = absurd (no_way refl)
-inactive_at false no_way = refl
-
 -- exceptions other than NMI and HardFault have a priority of 0 or more
 rank_priority : (s : Registers) (n : ℕ) → is_last n ≡ false → lt_z (priority s n) (negsuc 0) ≡ false
 rank_priority s n other = let both = or_parts (eqb n 2) (eqb n 3) other in rw (both.0, both.1)
@@ -81,20 +77,17 @@ takeable : (s : Registers) (n : ℕ) → n < 48 → counts s n ≡ true → lt_z
 takeable s n within counted low = record {
   real = leb-true 2 n (and_parts (leb 2 n) _ counted).0;
   within = within;
-  inactive = inactive_at _ (λ on. not_below_itself (priority s n) (below_execution s (priority s n) n low within on));
-  fallback = λ other. inactive_at _ (λ on. both_ways (lt_z (priority s n) (negsuc 0)) (rank_priority s n other) (below_execution s (priority s n) 3 low (omega arith) on));
+  inactive = false_from_ne_true _ (λ on. not_below_itself (priority s n) (below_execution s (priority s n) n low within on));
+  fallback = λ other. false_from_ne_true _ (λ on. both_ways (lt_z (priority s n) (negsuc 0)) (rank_priority s n other) (below_execution s (priority s n) 3 low (omega arith) on));
 }
 
 chosen_from : (s : Registers) (o : Option ℕ) → Found s 48 o → (n : ℕ) → if_below s o ≡ Some n → Takeable s n
-chosen_from s None found n e = absurd (none_some e)
-  where
-    none_some : None ≡ Some n → ⊥
-    none_some p = let no : ◌≡◌ {A = ℕ} 0 1 = cc in omega arith
+chosen_from s None found n e = cc
 chosen_from s (Some k) found n e = go (lt_z (priority s k) (execution_priority s)) refl e
   where
     go : (b : Bool) → lt_z (priority s k) (execution_priority s) ≡ b → cond b (Some k) None ≡ Some n → Takeable s n
     go true low same = let is : k ≡ n = cc in subst (Takeable s) is (takeable s k found.0 found.1 low)
-    go false low same = let no : ◌≡◌ {A = ℕ} 0 1 = cc in absurd (omega arith)
+    go false low same = cc
 
 pub chosen_takeable : (s : Registers) (n : ℕ) → chosen s ≡ Some n → Takeable s n
 chosen_takeable s n e = chosen_from s (best 48 s) (best_found s 48) n e

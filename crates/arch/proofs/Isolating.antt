@@ -2,6 +2,7 @@
 use Rattle.std.proofs.Common.{◌≡◌, ℕ, ◌+◌, true, false, eqb, ◌⊎◌, List, [], ◌∷◌, Ok, Err, Result, sym, refl, ap, ◌∙◌, subst, inl, inr, arith}
 use lib.Count.{ones}
 use Rattle.std.proofs.lemmas.Bool.{cases_eq, eq-eqb, ne_eqb, false≢true}
+use Rattle.std.proofs.lemmas.Nat.{zero_from_ones}
 use Rattle.bus.specs.Isolation.{Alike, Twins as twin_runs}
 use Rattle.bus.specs.Program.{World, Reply, done, run, Always}
 use Rattle.bus.specs.declared.access.Right.TheVariants.{Privileged}
@@ -18,7 +19,7 @@ use Rattle.arch.specs.Step.{answer_to, fresh, reset}
 use Rattle.arch.specs.declared.answers.Call.{Call}
 use Rattle.arch.specs.declared.answers.Call.TheVariants.{Step}
 use Rattle.arch.specs.declared.registers.Registers.{Registers}
-use Rattle.arch.proofs.Counting.{ones_empty, ones_none}
+use Rattle.arch.proofs.Counting.{ones_empty}
 use Rattle.arch.proofs.Guarding.{BothEntered, guarded_call}
 use Rattle.arch.proofs.Running.{even_half}
 use Rattle.arch.proofs.Stepping.{Post, call_post}
@@ -63,7 +64,7 @@ count_mode s sound = go (cases_eq s.exceptions.active 0) ∙ sym sound.mode
   where
     go : (s.exceptions.active ≡ 0) ⊎ (s.exceptions.active ≡ 0 → ⊥) → eqb (ones s.exceptions.active) 0 ≡ eqb s.exceptions.active 0
     go (inl none) = ap (λ set. eqb (ones set) 0) none ∙ ap (λ n. eqb n 0) ones_empty ∙ sym (eq-eqb s.exceptions.active 0 none)
-    go (inr some) = ne_eqb (ones s.exceptions.active) 0 (λ e. some (ones_none s.exceptions.active e)) ∙ sym (ne_eqb s.exceptions.active 0 some)
+    go (inr some) = ne_eqb (ones s.exceptions.active) 0 (λ e. some (zero_from_ones s.exceptions.active e)) ∙ sym (ne_eqb s.exceptions.active 0 some)
 
 module _ (m : Machine) (sound : Sound m.registers) (none : m.registers.exceptions.active ≡ 0) where
   pub isolation : (calls : List Call) → Isolation m calls

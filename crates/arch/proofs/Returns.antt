@@ -2,6 +2,7 @@
 use Rattle.std.proofs.Common.{◌≡◌, ℕ, ◌+◌, ◌-◌, ◌%◌, ◌^◌, Bool, true, false, cond, not, ◌&&◌, ◌||◌, eqb, Ok, Err, Result, sym, refl, ap, ◌∙◌, arith}
 use lib.Count.{ones}
 use Rattle.std.proofs.lemmas.Bool.{and_parts, eqb-true, eq-eqb, ne_eqb, not-true, both_ways, true≢false, false≢true}
+use Rattle.std.proofs.lemmas.Nat.{zero_from_ones}
 use Rattle.bus.specs.Program.{Always}
 use Rattle.bus.specs.declared.fault.Cause.TheVariants.{BadReturn}
 use Rattle.bus.specs.declared.fault.Fault.{Fault}
@@ -13,7 +14,7 @@ use Rattle.arch.specs.Registers.{handler, right_if}
 use Rattle.arch.specs.Return.{core_fault, to_thread, to_process, returnable, frame_pointer, forced_thread, number_in, still_active, consistent, restored, acceptable, judged, read_frame, unstack, exception_return}
 use Rattle.arch.specs.declared.registers.Frame.{Frame}
 use Rattle.arch.specs.declared.registers.Registers.{Registers}
-use Rattle.arch.proofs.Counting.{ones_without, ones_none, bit_zero}
+use Rattle.arch.proofs.Counting.{ones_without, bit_zero}
 use Rattle.arch.proofs.Running.{aligned_if, aligned_unless}
 
 -- t is where s can have returned to
@@ -47,7 +48,7 @@ module _ (s : Registers) (exc : ℕ) (sound : Sound s) (from : handler s ≡ tru
   thread_alone may thread =
       let ways = (and_parts (bit_of s.exceptions.active s.current) _ (and_parts (eqb (field_of exc 4 24) (2 ^ 24 - 1)) _ may).1).1 in
       let only = eqb-true _ _ (alone (eqb (field_of exc 0 4) 1) (eqb (field_of exc 0 4) 9 || eqb (field_of exc 0 4) 13) (eqb (ones s.exceptions.active) 1) ways thread) in
-      ones_none (still_active s) (omega (arith, fewer))
+      zero_from_ones (still_active s) (omega (arith, fewer))
 
   returning : returnable s exc ≡ true → (f : Frame) → acceptable s exc f ≡ true → Returning s (restored s exc f)
   returning may f taken =

@@ -1,7 +1,7 @@
 // Everything that a core holds.
 use word::Flags;
 
-#[derive(Clone, Copy, Debug, PartialEq, Eq)]
+#[derive(Clone, Copy, Debug, Default, PartialEq, Eq)]
 pub struct Control {
     // Thread mode is unprivileged
     pub npriv: bool,
@@ -10,7 +10,7 @@ pub struct Control {
 }
 
 // Sets of exception numbers, bit n for exception n, and the rank of each.
-#[derive(Clone, Copy, Debug, PartialEq, Eq)]
+#[derive(Clone, Copy, Debug, Default, PartialEq, Eq)]
 pub struct Exceptions {
     pub pending: u64,
     pub active: u64,
@@ -18,7 +18,7 @@ pub struct Exceptions {
     pub ranks: [u8; 48],
 }
 
-#[derive(Clone, Copy, Debug, PartialEq, Eq)]
+#[derive(Clone, Copy, Debug, Default, PartialEq, Eq)]
 pub struct Registers {
     // R0 to R12
     pub general: [u32; 13],

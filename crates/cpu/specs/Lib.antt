@@ -1,4 +1,3 @@
 pub mod Performed
 pub mod Responses
 pub mod Restored
-pub mod Stacked

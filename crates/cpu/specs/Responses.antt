@@ -7,21 +7,13 @@ use Rattle.bus.specs.declared.refusal.Refusal.{Refusal}
 use Rattle.thumb.specs.declared.instructions.Refusal.{Refusal as Undecoded}
 use Rattle.thumb.specs.declared.instructions.Refusal.TheVariants.{Undefined, Unpredictable}
 use Rattle.arch.specs.declared.answers.Answer.{Answer}
-use Rattle.arch.specs.declared.answers.Answer.TheVariants.{Ran as ran, Returned as returned}
 use Rattle.arch.specs.Answers.{Response}
 use Rattle.arch.specs.declared.answers.Completed.TheVariants.{Stepped, Accepted}
-use Rattle.exec.specs.declared.flow.Flow.{Flow}
-use Rattle.exec.specs.declared.flow.Flow.TheVariants.{Ran, Returned}
 
 -- the cause of an encoding that is no instruction
 abbrev pub cause_of : Undecoded → Cause
 cause_of Undefined = undefined
 cause_of Unpredictable = unpredictable
-
--- the answer of an instruction that was carried out
-abbrev pub answer_of : Flow → Answer
-answer_of Ran = ran
-answer_of Returned = returned
 
 -- a step's
 abbrev pub stepped : Result Answer Refusal → Response

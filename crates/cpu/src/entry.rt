@@ -5,7 +5,6 @@ ghost use Rattle.arch.specs.Accesses.{try_words};
 ghost use Rattle.arch.specs.Entry.{frame_of, frame_words as frame_words_of, return_value as return_value_of, entered, is_last, stack_frame as stack_frame_of, take_last as take_last_of, take_other as take_other_of, take_up as take_up_of};
 ghost use Rattle.arch.specs.Status.{frame_status};
 ghost use Rattle.arch.specs.declared.answers.Completed.TheVariants.{Stepped};
-ghost use Rattle.cpu.specs.Stacked.{first_refusal};
 
 use arch::{Answer, Registers};
 use bus::{Bus, Fault, Right, Width};
@@ -39,24 +38,15 @@ fn frame_words(r: &Registers) -> [u32; 8]
     [r0, r1, r2, r3, r12, r.lr, r.pc, stacked_status(r, padded)]
 }
 
-// The first of the refusals so far.
-fn note(first: Option<Fault>, reply: Result<(), Fault>) -> Option<Fault>
-    ensures { result ≡ first_refusal first reply }
-{
-    match (first, reply) {
-        (None, Err(fault)) => Some(fault),
-        _ => first,
-    }
-}
-
 // All the words from `x` upward, whatever is refused; the first refusal.
 fn stack_words<B: Bus>(bus: &mut B, right: Right, words: [u32; 8], x: u32) -> Option<Fault>
     ensures { Makes B.Bus bus.old bus.new (try_words right None words x) result }
 {
+    // addresses wrap, so no range gives them
     let mut at = x;
     let mut first = None;
     for word in &words {
-        first = note(first, bus.write(Width::Word, right, at, *word));
+        first = first.or(bus.write(Width::Word, right, at, *word).err());
         at = at.wrapping_add(4);
     }
     first

@@ -2,19 +2,39 @@
 ghost use Rattle.std.specs.Prelude.{◌≡◌, MatchResult};
 ghost use Rattle.bus.specs.Made.{world};
 ghost use Rattle.cpu.specs.Performed.{Performed, Unmade, machine};
+ghost use Rattle.cpu.specs.declared.sequence.Failure.TheVariants.{OutOfMemory, ResetRefused};
 
 use crate::processor::Core;
 use arch::{Call, Response};
 use bus::{Bus, Fault};
-use std::alloc::Global;
+use std::alloc::{AllocError, Global};
+use thiserror::Error;
 
 // Why no call was made.
-#[derive(Clone, Copy)]
+#[derive(Clone, Copy, Debug, PartialEq, Eq, Error)]
 pub enum Failure {
     // there is no memory for the answers
+    #[error("out of memory")]
     OutOfMemory,
     // a read of the reset was refused
+    #[error("the reset was refused")]
     ResetRefused(Fault),
+}
+
+impl From<AllocError> for Failure {
+    ghost from_gives = { λ _ failure. failure ≡ OutOfMemory };
+
+    fn from(_error: AllocError) -> Failure {
+        Failure::OutOfMemory
+    }
+}
+
+impl From<Fault> for Failure {
+    ghost from_gives = { λ fault failure. failure ≡ ResetRefused fault };
+
+    fn from(fault: Fault) -> Failure {
+        Failure::ResetRefused(fault)
+    }
 }
 
 // Resets the machine, makes the calls in their order, and hands back every answer.
@@ -27,16 +47,12 @@ pub fn perform<B: Bus>(
     ensures performed { MatchResult result (λ answers. Performed answers.items calls.now (machine core.old.registers (world B.Bus bus.old)) (machine core.new.registers (world B.Bus bus.new))) (λ failure. Unmade failure (machine core.old.registers (world B.Bus bus.old)) (machine core.new.registers (world B.Bus bus.new))) }
     ensures settled { B.Bus.settings bus.new ≡ B.Bus.settings bus.old }
 {
-    let Ok(mut answers) = Vec::with_capacity(heap, calls.len()) else {
-        return Err(Failure::OutOfMemory);
-    };
-    if let Err(fault) = core.reset(bus) {
-        return Err(Failure::ResetRefused(fault));
-    }
+    let mut answers = Vec::with_capacity(heap, calls.len())?;
+    core.reset(bus)?;
     for call in calls {
         let answer = core.call(bus, *call);
         // there is room: it was made before the reset
-        let _ = answers.push(answer);
+        answers.push(answer).unwrap();
     }
     Ok(answers)
 }

@@ -6,7 +6,7 @@ ghost use Rattle.arch.specs.Step.{execute as execute_of, perform_decoded, instru
 ghost use Rattle.arch.specs.declared.answers.Completed.TheVariants.{Stepped};
 ghost use Rattle.exec.specs.Outcome.{Executes, outcome};
 ghost use Rattle.thumb.specs.Decoded.{decoded};
-ghost use Rattle.cpu.specs.Responses.{stepped, answer_of, cause_of};
+ghost use Rattle.cpu.specs.Responses.{stepped, cause_of};
 
 use crate::entry::{HARD_FAULT, take_up};
 use arch::{Answer, Registers};
@@ -48,6 +48,7 @@ fn execute<B: Bus>(
     Ok(Flow::Ran)
 }
 
+// neither type is declared here, so this is no From
 fn cause(refusal: thumb::instructions::Refusal) -> Cause
     ensures { result ≡ cause_of refusal }
 {
@@ -101,20 +102,11 @@ fn settle_fault(r: &mut Registers, fault: Fault) -> Answer
     Answer::Faulted(fault)
 }
 
-fn answer(flow: Flow) -> Answer
-    ensures { result ≡ answer_of flow }
-{
-    match flow {
-        Flow::Ran => Answer::Ran,
-        Flow::Returned => Answer::Returned,
-    }
-}
-
 fn run_instruction<B: Bus>(r: &mut Registers, bus: &mut B) -> Answer
     ensures { Makes B.Bus bus.old bus.new (bind (instruction_of r.old) (λ y. done (settle r.old y))) (Ok (Stepped result), r.new) }
 {
     match instruction(r, bus) {
-        Ok(flow) => answer(flow),
+        Ok(flow) => Answer::from(flow),
         Err(fault) => settle_fault(r, fault),
     }
 }

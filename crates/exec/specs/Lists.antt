@@ -6,8 +6,7 @@ use Rattle.bus.specs.declared.access.Width.TheVariants.{Word}
 use Rattle.bus.specs.declared.fault.Fault.{Fault}
 use Rattle.word.specs.Fields.{bit_of}
 use Rattle.arch.specs.Accesses.{Attempt, then, read, write}
-use Rattle.arch.specs.Branches.{Done, ran, bx_write_pc}
-use Rattle.arch.specs.Registers.{plus, right_of, reg, with_reg, with_sp, moved_on}
+use Rattle.arch.specs.Registers.{plus, right_of, reg, with_reg}
 use Rattle.arch.specs.Transfers.{push_lr}
 use Rattle.arch.specs.declared.registers.Registers.{Registers}
 
@@ -35,8 +34,3 @@ loaded_to (Err f) t = Err f
 -- LR to the word at x, if it is pushed
 abbrev pub link_pushed : Bool → Registers → ℕ → Attempt (Unit {0})
 link_pushed lr s x = then (push_lr lr s x) (λ _. done (Ok tt))
-
--- PC from the word at x, if it is popped, read with this right
-abbrev pub pc_popped : Bool → Right → Registers → ℕ → Attempt Done
-pc_popped true right t x = then (read Word right x) (λ v. bx_write_pc (with_sp t (plus x 4)) v)
-pc_popped false right t x = done (Ok (ran (moved_on 2 (with_sp t x))))

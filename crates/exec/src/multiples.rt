@@ -3,8 +3,8 @@ ghost use Rattle.std.specs.Prelude.{◌≡◌, ◌+◌, ◌*◌, ◌≤◌};
 ghost use Rattle.bus.specs.Made.{Makes};
 ghost use Rattle.word.specs.Sums.{one_if};
 ghost use Rattle.arch.specs.Registers.{minus, sp};
-ghost use Rattle.arch.specs.Transfers.{registers_of, store_registers, load_registers, span as span_of, multiple as multiple_of};
-ghost use Rattle.exec.specs.Lists.{store_next, load_next, loaded_to, link_pushed, pc_popped};
+ghost use Rattle.arch.specs.Transfers.{registers_of, store_registers, load_registers, span as span_of, pop_pc as pop_pc_of, multiple as multiple_of};
+ghost use Rattle.exec.specs.Lists.{store_next, load_next, loaded_to, link_pushed};
 ghost use Rattle.exec.specs.Outcome.{Executes, outcome, returned_to};
 
 use crate::branches::bx_write_pc;
@@ -36,6 +36,7 @@ fn store_next<B: Bus>(r: &Registers, bus: &mut B, list: u8, i: u8, x: u32) -> Re
 fn store_registers<B: Bus>(r: &Registers, bus: &mut B, list: u8, x: u32) -> Result<u32, Fault>
     ensures { Makes B.Bus bus.old bus.new (store_registers r.now (registers_of list) x) result }
 {
+    // moves only past a register of the list
     let mut at = x;
     for i in 0..8u8 {
         at = store_next(r, bus, list, i, at)?;
@@ -138,7 +139,7 @@ fn pop_pc<B: Bus>(
     pc: bool,
     x: u32,
 ) -> Result<Flow, Fault>
-    ensures { Makes B.Bus bus.old bus.new (pc_popped pc right r.old x) (outcome result r.new) }
+    ensures { Makes B.Bus bus.old bus.new (pop_pc_of pc right r.old x) (outcome result r.new) }
 {
     if !pc {
         state::set_stack_pointer(r, x);

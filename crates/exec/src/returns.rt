@@ -104,6 +104,8 @@ fn fits_mode(r: &Registers, exc: u32, status: u32) -> bool
     number != 0 && word::has(others, u32::from(number))
 }
 
+// EXC_RETURN stays a word: the architecture's definitions read its low bits, and an enum of the three targets would be a
+// second form of it in each contract
 fn to_thread(exc: u32) -> bool
     ensures { result ≡ to_thread exc }
 {

@@ -38,13 +38,10 @@ fn special_value(r: &Registers, from: SpecialRegister) -> u32
     let flags = flags_word(r.flags);
     let number = shown(r, u32::from(r.current));
     match from {
-        SpecialRegister::Apsr => flags,
-        SpecialRegister::Iapsr => flags + number,
-        SpecialRegister::Eapsr => flags,
-        SpecialRegister::Xpsr => flags + number,
-        SpecialRegister::Ipsr => number,
+        SpecialRegister::Apsr | SpecialRegister::Eapsr => flags,
+        SpecialRegister::Iapsr | SpecialRegister::Xpsr => flags + number,
+        SpecialRegister::Ipsr | SpecialRegister::Iepsr => number,
         SpecialRegister::Epsr => 0,
-        SpecialRegister::Iepsr => number,
         SpecialRegister::Msp => shown(r, r.msp),
         SpecialRegister::Psp => shown(r, r.psp),
         SpecialRegister::Primask => u32::from(r.primask),
@@ -58,13 +55,11 @@ fn set_special(r: &mut Registers, to: SpecialRegister, value: u32)
 {
     let privileged = state::privileged(r);
     match to {
-        SpecialRegister::Apsr => r.flags = flags_of(value),
-        SpecialRegister::Iapsr => r.flags = flags_of(value),
-        SpecialRegister::Eapsr => r.flags = flags_of(value),
-        SpecialRegister::Xpsr => r.flags = flags_of(value),
-        SpecialRegister::Ipsr => {}
-        SpecialRegister::Epsr => {}
-        SpecialRegister::Iepsr => {}
+        SpecialRegister::Apsr
+        | SpecialRegister::Iapsr
+        | SpecialRegister::Eapsr
+        | SpecialRegister::Xpsr => r.flags = flags_of(value),
+        SpecialRegister::Ipsr | SpecialRegister::Epsr | SpecialRegister::Iepsr => {}
         SpecialRegister::Msp if privileged => r.msp = value / 4 * 4,
         SpecialRegister::Msp => {}
         SpecialRegister::Psp if privileged => r.psp = value / 4 * 4,
@@ -104,16 +99,14 @@ pub fn system(r: &mut Registers, instruction: System, size: u32) -> Result<Flow,
     ensures kept { KeptAt result r.old r.new }
 {
     match instruction {
-        System::Svc { imm: _ } => return call_supervisor(r, size),
-        System::Bkpt { imm: _ } => return Err(fault(Cause::Breakpoint, r)),
-        System::Udf { imm: _ } => return Err(fault(Cause::Undefined, r)),
-        System::UdfWide { imm: _ } => return Err(fault(Cause::Undefined, r)),
+        System::Svc { .. } => return call_supervisor(r, size),
+        System::Bkpt { .. } => return Err(fault(Cause::Breakpoint, r)),
+        System::Udf { .. } | System::UdfWide { .. } => {
+            return Err(fault(Cause::Undefined, r));
+        }
         System::Cps { disable } if state::privileged(r) => r.primask = disable,
-        System::Cps { disable: _ } => {}
-        System::Hint { number: _ } => {}
-        System::Dsb { option: _ } => {}
-        System::Dmb { option: _ } => {}
-        System::Isb { option: _ } => {}
+        System::Cps { .. } => {}
+        System::Hint { .. } | System::Dsb { .. } | System::Dmb { .. } | System::Isb { .. } => {}
         System::Mrs { d, from } => state::set_register(r, d, special_value(r, from)),
         System::Msr { to, n } => set_special(r, to, state::register(r, n)),
     }

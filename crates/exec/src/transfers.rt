@@ -19,6 +19,8 @@ pub fn address_of(r: &Registers, address: Address) -> u32
     }
 }
 
+// The registers and the bus go as two loans: in a struct of both, each method would also promise that it still holds the
+// same two, and reach them through one pointer more.
 fn store<B: Bus>(
     r: &mut Registers,
     bus: &mut B,
@@ -48,7 +50,8 @@ fn load<B: Bus>(
     Ok(Flow::Ran)
 }
 
-// A load of the low `bits` bits of what is read, with their sign.
+// A load of the low `bits` bits of what is read, with their sign. One load with a closure for the sign would promise less:
+// a closure's contract is a relation, and the definition takes a function.
 fn load_signed<B: Bus>(
     r: &mut Registers,
     bus: &mut B,

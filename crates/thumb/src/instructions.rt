@@ -37,6 +37,7 @@ pub enum Instruction {
 }
 
 /// Shift (immediate), add, subtract, move and compare, on low registers; all set the flags.
+// A variant for each row of the diagrams, also where two have the same fields, so that the table names them one to one.
 #[derive(Clone, Copy, Debug, PartialEq, Eq)]
 pub enum Basic {
     /// By 1 to 31.

@@ -1,4 +1,5 @@
 //! The 16-bit encodings.
+// Each `match` is a table of the manual: an arm for a row says more than a conversion of the opcode's number would.
 ghost use Rattle.std.specs.Prelude.{◌≡◌, ◌+◌, ◌*◌, ◌/◌, ◌%◌, ◌^◌, ◌<◌, ◌≤◌, Ok};
 ghost use Rattle.thumb.specs.Decoded.{decoded_narrow};
 ghost use Rattle.thumb.specs.Operands.{shift_amount};
@@ -233,6 +234,7 @@ fn offset(x: u32) -> Instruction
 }
 
 /// A transfer at a multiple of `scale` above a low register.
+// Called with constants: one transfer behind a match of operation and scale took a decoder an eighth more machine instructions.
 fn beside(x: u32, op: Transfer, scale: u32) -> Instruction
     requires { scale ≤ 4 }
     ensures { result ≡ Instruction.Transfer op (x / 2 ^ 0 % 2 ^ 3) (Address.Offset (x / 2 ^ 3 % 2 ^ 3) (x / 2 ^ 6 % 2 ^ 5 * scale)) }

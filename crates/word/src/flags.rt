@@ -7,7 +7,7 @@ use super::shifts::Shifted;
 use super::sums::Sum;
 
 /// The condition flags of APSR.
-#[derive(Clone, Copy, Debug, PartialEq, Eq)]
+#[derive(Clone, Copy, Debug, Default, PartialEq, Eq)]
 pub struct Flags {
     pub n: bool,
     pub z: bool,

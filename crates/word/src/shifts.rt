@@ -34,6 +34,7 @@ pub fn shift_c(kind: Shift, x: u32, amount: u32, carry_in: bool) -> Shifted
     }
 }
 
+// `0 < n` and no `NonZero`: the one test above gives it, and the shifts reckon with the plain number.
 fn moved(kind: Shift, x: u32, n: u32) -> Shifted
     requires { 0 < n }
     ensures { result ≡ by_kind kind x n }

@@ -1,66 +1,38 @@
 // How a core begins.
-ghost use Rattle.std.specs.Prelude.{◌≡◌};
-ghost use Rattle.bus.specs.Made.{Makes};
-ghost use Rattle.arch.specs.Step.{blank as blank_of, fresh as fresh_of, new_core, reset as reset_of};
+ghost use Rattle.std.specs.Prelude.{◌≡◌, false};
+ghost use Rattle.bus.specs.Made.{Leaves, Makes};
+ghost use Rattle.arch.specs.Step.{blank, fresh as fresh_of, new_core, reset as reset_of};
 ghost use Rattle.exec.specs.Outcome.{Executes, returned_to};
 ghost use Rattle.cpu.specs.Restored.{Restored};
 
 use super::Core;
-use arch::{Control, Exceptions, Registers};
+use arch::Registers;
 use bus::{Bus, Fault, Refusal, Right, Width};
-use word::Flags;
 
-// All registers 0, clear or off, but for these.
-fn blank(locked: bool, lr: u32, msp: u32, pc: u32, thumb: bool) -> Registers
-    ensures { result ≡ blank_of locked lr msp pc thumb }
+// All registers 0, clear or off.
+fn cleared() -> Registers
+    ensures { result ≡ blank false 0 0 0 false }
 {
-    Registers {
-        general: [0; 13],
-        lr,
-        msp,
-        psp: 0,
-        pc,
-        flags: Flags {
-            n: false,
-            z: false,
-            c: false,
-            v: false,
-        },
-        thumb,
-        primask: false,
-        control: Control {
-            npriv: false,
-            spsel: false,
-        },
-        current: 0,
-        exceptions: Exceptions {
-            pending: 0,
-            active: 0,
-            armed: 0,
-            ranks: [0; 48],
-        },
-        locked,
-    }
+    Registers::default()
 }
 
 // The registers just after a reset, by words 0 and 4.
 fn fresh(msp: u32, start: u32) -> Registers
     ensures { result ≡ fresh_of msp start }
 {
-    blank(
-        false,
-        0xffff_ffff,
-        msp / 4 * 4,
-        start / 2 * 2,
-        start % 2 == 1,
-    )
+    Registers {
+        lr: 0xffff_ffff,
+        msp: msp / 4 * 4,
+        pc: start / 2 * 2,
+        thumb: start % 2 == 1,
+        ..cleared()
+    }
 }
 
 #[tactic(auto, unfolding(arch::specs::Step::reset))]
 fn boot<B: Bus>(bus: &mut B) -> Result<Registers, Fault>
     ensures made { Makes B.Bus bus.old bus.new reset_of result }
-    ensures contents { B.Bus.bytes bus.new ≡ B.Bus.bytes bus.old }
-    ensures verdicts { B.Bus.verdict bus.new ≡ B.Bus.verdict bus.old }
+    ensures leaves { Leaves B.Bus bus.old bus.new }
 {
     let msp = bus.read(Width::Word, Right::Privileged, 0)?;
     let start = bus.read(Width::Word, Right::Privileged, 4)?;
@@ -73,7 +45,10 @@ impl Core {
         ensures { result.registers ≡ new_core }
     {
         Core {
-            registers: blank(true, 0, 0, 0, false),
+            registers: Registers {
+                locked: true,
+                ..cleared()
+            },
         }
     }
 
@@ -98,8 +73,7 @@ impl Core {
     // A refused read is answered and changes nothing.
     pub fn reset<B: Bus>(&mut self, bus: &mut B) -> Result<(), Fault>
         ensures made { Executes B.Bus bus.old bus.new self.old.registers self.new.registers reset_of returned_to result }
-        ensures contents { B.Bus.bytes bus.new ≡ B.Bus.bytes bus.old }
-        ensures verdicts { B.Bus.verdict bus.new ≡ B.Bus.verdict bus.old }
+        ensures leaves { Leaves B.Bus bus.old bus.new }
     {
         self.registers = boot(bus)?;
         Ok(())

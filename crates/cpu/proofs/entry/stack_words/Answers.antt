@@ -1,14 +1,13 @@
-use Rattle.std.proofs.Common.{◌≡◌, ◌+◌, ◌<◌, ◌∷◌, length, get_or, drop, sym, ap, ◌∙◌, ap₂, add-one, arith, drop-cons, rules}
+use Rattle.std.proofs.Common.{◌≡◌, ℕ, ◌+◌, ◌<◌, List, [], ◌∷◌, length, get_or, drop, sym, ap, ◌∙◌, ap₂, add-one, arith, drop-cons}
+use Rattle.std.specs.Option.{option_or}
 use lib.Seq.{drop-length}
 use Rattle.bus.specs.Made.{world}
 use Rattle.bus.specs.Program.{run}
 use Rattle.arch.specs.Accesses.{try_words}
 use Rattle.arch.specs.Registers.{plus}
+use Rattle.exec.proofs.Sequence.{makes_nothing, continues_as, makes_whole}
 use Rattle.cpu.proofs.Stacking.{try_step}
 use Rattle.cpu.proofs.entry.stack_words.Goals as goal
-
-pub loop-word-init : goal.loop-word-init
-loop-word-init g c = search rules
 
 pub loop-word-preserved : goal.loop-word-preserved
 loop-word-preserved g c =
@@ -24,22 +23,20 @@ loop-word-preserved g c =
     let after = world bus c.write.new.self in
     let made = c.write.ensures in
     let within : i < length words = omega arith in
-    let cut : drop i words ≡ v ∷ rest = rw (add-one, drop-cons words i 0) in (
-      ap (λ o. run (try_words right o rest (plus x 4)) after) c.note-first.ensures
+    let cut : drop i words ≡ v ∷ rest = rw (add-one, drop-cons words i 0) in
+    record {
+      left =
+          ap (λ o. run (try_words right o rest (plus x 4)) after) (c.or-first.ensures ∙ ap (option_or first) c.err.ensures.value)
           ∙ sym (try_step right first v x rest before after c.write.result made.value (ap₂ (λ b d. record { bytes = b; verdict = d }) made.contents made.verdicts))
           ∙ ap (λ ws. run (try_words right first ws x) before) (sym cut)
-          ∙ c.loop-word.invariant.0,
-      made.settled ∙ c.loop-word.invariant.1,
-    )
+          ∙ c.loop-word.invariant.left;
+      settled = made.settled ∙ c.loop-word.invariant.settled;
+    }
 
 pub returns : goal.returns
 unfolding try_words
 returns g c =
-    let bus = g.B.Bus in
     let words = c.args.words in
-    let before = world bus c.loop-word.bus in
+    let here = λ (ws : List ℕ). try_words c.args.right c.loop-word.first ws c.loop-word.at in
     let end : c.loop-word.word-index ≡ length words = omega arith in
-    record {
-      runs = sym c.loop-word.invariant.0 ∙ ap (λ ws. run (try_words c.args.right c.loop-word.first ws c.loop-word.at) before) (ap (λ i. drop i words) end ∙ drop-length words);
-      settled = c.loop-word.invariant.1;
-    }
+    makes_whole (continues_as c.loop-word.invariant (here []) (ap (λ ws. run (here ws) (world g.B.Bus c.loop-word.bus)) (ap (λ i. drop i words) end ∙ drop-length words))) makes_nothing

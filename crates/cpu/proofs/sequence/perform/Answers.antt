@@ -10,8 +10,8 @@ pub loop-call-init : goal.loop-call-init
 loop-call-init g c =
     let bus = g.B.Bus in
     let fresh = machine c.reset.new.self.registers (world bus c.reset.new.bus) in
-    let empty = c.in-Ok.ensures in
-    (underway_none c.args.calls.now fresh (vec_items c.in-Ok.answers) empty.items, refl, empty.len, empty.capacity)
+    let empty = c.in_ok-answers.ensures in
+    (underway_none c.args.calls.now fresh (vec_items c.in_ok-answers.answers) empty.items, refl, empty.len, empty.capacity)
 
 pub loop-call-preserved : goal.loop-call-preserved
 loop-call-preserved g c =
@@ -45,7 +45,7 @@ returns g c =
     let began = world bus c.reset.new.bus in
     let here = machine c.loop-call.core.registers (world bus c.loop-call.bus) in
     let inv = c.loop-call.invariant in
-    let reset = c.in_default-reset.ensures in
+    let reset = c.in_ok-reset.ensures in
     let all = underway_all calls (machine fresh began) c.loop-call.call-index (vec_items c.loop-call.answers) here c.loop-call-test.false inv.0 in
     record {
       performed = (machine fresh began, ap start_of reset.made.runs, record { answered = all.0; leaves = all.1; isolated = isolation_stands start began fresh calls reset.made.runs });
