@@ -165,7 +165,7 @@ module _ (s : Registers) (sound : Sound s) where
       go (Ok t) h = each t h
       go (Err f) h = tt
 
-  popped_ends : (b : Bool) (t : Registers) (x : ℕ) → Steady s t → Always (Ends s) (pop_pc b (right_of s) t x)
+  popped_ends : (b : Bool) (t : Registers) (x : ℕ) → Steady s t → Always (Ends s) (pop_pc b s t x)
   popped_ends true t x h = ends_then s (read Word (right_of s) x) (λ v. bx_write_pc (with_sp t (plus x 4)) v) (λ v. bx_ends (with_sp t (plus x 4)) (steady_sp s sound t (plus x 4) h) v)
   popped_ends false t x h = moves_on s sound 2 (with_sp t x) refl (steady_sp s sound t x h)
 
@@ -181,4 +181,4 @@ module _ (s : Registers) (sound : Sound s) where
       let ran_on : Running s (moved_on 2 (with_sp s base)) = moves_on s sound 2 (with_sp s base) refl (steady_sp s sound s base self) in
       ends_then s (store_registers s (registers_of list) base) (λ x. then (push_lr lr s x) (λ _. done (Ok (ran (moved_on 2 (with_sp s base)))))) (λ x. ends_then s (push_lr lr s x) (λ _. done (Ok (ran (moved_on 2 (with_sp s base))))) (λ _. ran_on))
   multiple_ends (Pop list pc) =
-      ends_loaded (load_registers (right_of s) s (registers_of list) (sp s)) (λ t. pop_pc pc (right_of s) t (plus (sp s) (span list))) (loaded (right_of s) s (registers_of list) (sp s) self) (λ t h. popped_ends pc t (plus (sp s) (span list)) h)
+      ends_loaded (load_registers (right_of s) s (registers_of list) (sp s)) (λ t. pop_pc pc s t (plus (sp s) (span list))) (loaded (right_of s) s (registers_of list) (sp s) self) (λ t h. popped_ends pc t (plus (sp s) (span list)) h)

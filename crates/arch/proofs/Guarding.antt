@@ -127,7 +127,7 @@ module _ (s : Registers) (sound : Sound s) (unprivileged : privileged s ≡ fals
       go (Ok t) h = each t h
       go (Err f) h = tt
 
-  only_pop : (b : Bool) (t : Registers) (x : ℕ) → t.current ≡ s.current → UnprivilegedOnly (pop_pc b (right_of s) t x)
+  only_pop : (b : Bool) (t : Registers) (x : ℕ) → t.current ≡ s.current → UnprivilegedOnly (pop_pc b s t x)
   only_pop true t x same = only_then (read Word (right_of s) x) (λ v. bx_write_pc (with_sp t (plus x 4)) v) (low, λ _. tt) (λ v. only_bx (with_sp t (plus x 4)) v same)
   only_pop false t x same = tt
 
@@ -141,7 +141,7 @@ module _ (s : Registers) (sound : Sound s) (unprivileged : privileged s ≡ fals
       only_then (store_registers s (registers_of list) base) (λ x. then (push_lr lr s x) (λ _. done (Ok (ran (moved_on 2 (with_sp s base)))))) (only_store_registers (registers_of list) base) (λ x. only_then (push_lr lr s x) (λ _. done (Ok (ran (moved_on 2 (with_sp s base))))) (only_push lr x) (λ _. tt))
   only_multiple (Pop list pc) =
       let registers = load_registers (right_of s) s (registers_of list) (sp s) in
-      only_loaded registers (λ t. pop_pc pc (right_of s) t (plus (sp s) (span list))) (only_load_registers (right_of s) low s (registers_of list) (sp s)) (loaded s sound (right_of s) s (registers_of list) (sp s) (steady_self s sound)) (λ t h. only_pop pc t (plus (sp s) (span list)) h.current)
+      only_loaded registers (λ t. pop_pc pc s t (plus (sp s) (span list))) (only_load_registers (right_of s) low s (registers_of list) (sp s)) (loaded s sound (right_of s) s (registers_of list) (sp s) (steady_self s sound)) (λ t h. only_pop pc t (plus (sp s) (span list)) h.current)
 
   only_call : (b : Bool) (k : ℕ) → UnprivilegedOnly (supervisor_call b k s)
   only_call true k = tt

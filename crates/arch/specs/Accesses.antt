@@ -1,9 +1,7 @@
 -- The accesses that instructions, entries and returns are made of.
-use Rattle.std.specs.Option.{option_or}
-use Rattle.std.specs.Prelude.{ℕ, List, [], ◌∷◌, Ok, Err, Option, Result}
-use Rattle.std.specs.Result.{result_err}
+use Rattle.std.specs.Prelude.{ℕ, List, [], ◌∷◌, Some, None, Ok, Err, Option, Result}
 use Rattle.bus.specs.Meaning.{fetching, reading, writing}
-use Rattle.bus.specs.Program.{Program, done, ask, bind}
+use Rattle.bus.specs.Program.{Reply, Program, done, ask, bind}
 use Rattle.bus.specs.declared.access.Right.{Right}
 use Rattle.bus.specs.declared.access.Width.{Width}
 use Rattle.bus.specs.declared.access.Width.TheVariants.{Word}
@@ -32,8 +30,10 @@ abbrev pub write : Width → Right → ℕ → ℕ → Attempt ℕ
 write width right x v = ask (writing width right x) v done
 
 -- the first of the refusals
-abbrev pub noting : {A : Type 0} → Option Fault → Result A Fault → Option Fault
-noting first r = option_or first (result_err r)
+abbrev pub noting : Option Fault → Reply → Option Fault
+noting (Some f) r = Some f
+noting None (Err f) = Some f
+noting None (Ok v) = None
 
 -- all the words from x upward, whatever is refused; the first refusal, if there was none before
 unfoldable pub try_words : Right → Option Fault → List ℕ → ℕ → Program (Option Fault)

@@ -37,6 +37,10 @@ with_primask s v = record { general = s.general; lr = s.lr; msp = s.msp; psp = s
 abbrev pub with_exceptions : Registers → Exceptions → Registers
 with_exceptions s v = record { general = s.general; lr = s.lr; msp = s.msp; psp = s.psp; pc = s.pc; flags = s.flags; thumb = s.thumb; primask = s.primask; control = s.control; current = s.current; exceptions = v; locked = s.locked }
 
+-- a stack pointer keeps no low two bits
+abbrev pub with_msp : Registers → ℕ → Registers
+with_msp s v = record { general = s.general; lr = s.lr; msp = align_to v 4; psp = s.psp; pc = s.pc; flags = s.flags; thumb = s.thumb; primask = s.primask; control = s.control; current = s.current; exceptions = s.exceptions; locked = s.locked }
+
 abbrev pub locked_core : Registers → Registers
 locked_core s = record { general = s.general; lr = s.lr; msp = s.msp; psp = s.psp; pc = s.pc; flags = s.flags; thumb = s.thumb; primask = s.primask; control = s.control; current = s.current; exceptions = s.exceptions; locked = true }
 

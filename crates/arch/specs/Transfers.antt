@@ -70,10 +70,14 @@ abbrev pub push_lr : Bool → Registers → ℕ → Attempt ℕ
 push_lr true s x = write Word (right_of s) x s.lr
 push_lr false s x = done (Ok x)
 
--- PC is above the other registers, read with this right, and SP has moved when it is written
-abbrev pub pop_pc : Bool → Right → Registers → ℕ → Attempt Done
-pop_pc true right t x = then (read Word right x) (λ v. bx_write_pc (with_sp t (plus x 4)) v)
-pop_pc false right t x = done (Ok (ran (moved_on 2 (with_sp t x))))
+-- PC from the word at x, if it is popped, read with this right; SP has moved when it is written
+abbrev pub pop_pc_with : Bool → Right → Registers → ℕ → Attempt Done
+pop_pc_with true right t x = then (read Word right x) (λ v. bx_write_pc (with_sp t (plus x 4)) v)
+pop_pc_with false right t x = done (Ok (ran (moved_on 2 (with_sp t x))))
+
+-- PC is above the other registers, and read with the right of those before
+abbrev pub pop_pc : Bool → Registers → Registers → ℕ → Attempt Done
+pop_pc b s t x = pop_pc_with b (right_of s) t x
 
 abbrev pub multiple : Multiple → Registers → Attempt Done
 multiple (Stm n list) s =
@@ -84,4 +88,4 @@ multiple (Push list lr) s =
     let base : ℕ = minus (sp s) (span list + 4 * one_if lr) in
     then (store_registers s (registers_of list) base) (λ x. then (push_lr lr s x) (λ _. done (Ok (ran (moved_on 2 (with_sp s base))))))
 multiple (Pop list pc) s =
-    then (load_registers (right_of s) s (registers_of list) (sp s)) (λ t. pop_pc pc (right_of s) t (plus (sp s) (span list)))
+    then (load_registers (right_of s) s (registers_of list) (sp s)) (λ t. pop_pc pc s t (plus (sp s) (span list)))

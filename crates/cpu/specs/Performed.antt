@@ -1,18 +1,25 @@
 -- What making a list of calls after a reset comes to.
 use Rattle.std.specs.Prelude.{◌≡◌, List, Ok, Err, Result}
+use Rattle.bus.specs.Made.{world}
 use Rattle.bus.specs.Program.{World, run}
 use Rattle.bus.specs.declared.fault.Fault.{Fault}
+use Rattle.bus.specs.declared.interface.Bus.{Ghosts as Bus}
 use Rattle.arch.specs.Answers.{Response}
 use Rattle.arch.specs.Laws.{Isolation}
 use Rattle.arch.specs.Machine.{Machine, after_calls, responses}
 use Rattle.arch.specs.Step.{reset}
 use Rattle.arch.specs.declared.answers.Call.{Call}
 use Rattle.arch.specs.declared.registers.Registers.{Registers}
+use Rattle.cpu.specs.declared.processor.Core.{Core}
 use Rattle.cpu.specs.declared.sequence.Failure.{Failure}
 use Rattle.cpu.specs.declared.sequence.Failure.TheVariants.{OutOfMemory, ResetRefused}
 
 abbrev pub machine : Registers → World → Machine
 machine s w = record { registers = s; world = w }
+
+-- the machine that a core on a bus is
+abbrev pub machine_on : {S : Type 0} → Bus S → Core → S → Machine
+machine_on bus core s = machine core.registers (world bus s)
 
 abbrev pub start_of : Result Registers Fault × World → Result Machine Fault
 start_of (Ok s, w) = Ok (machine s w)

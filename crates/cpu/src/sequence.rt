@@ -1,7 +1,6 @@
 // A list of calls on a machine that is reset first.
 ghost use Rattle.std.specs.Prelude.{◌≡◌, MatchResult};
-ghost use Rattle.bus.specs.Made.{world};
-ghost use Rattle.cpu.specs.Performed.{Performed, Unmade, machine};
+ghost use Rattle.cpu.specs.Performed.{Performed, Unmade, machine_on};
 ghost use Rattle.cpu.specs.declared.sequence.Failure.TheVariants.{OutOfMemory, ResetRefused};
 
 use crate::processor::Core;
@@ -44,7 +43,7 @@ pub fn perform<B: Bus>(
     bus: &mut B,
     calls: &[Call],
 ) -> Result<Vec<Response>, Failure>
-    ensures performed { MatchResult result (λ answers. Performed answers.items calls.now (machine core.old.registers (world B.Bus bus.old)) (machine core.new.registers (world B.Bus bus.new))) (λ failure. Unmade failure (machine core.old.registers (world B.Bus bus.old)) (machine core.new.registers (world B.Bus bus.new))) }
+    ensures performed { MatchResult result (λ answers. Performed answers.items calls.now (machine_on B.Bus core.old bus.old) (machine_on B.Bus core.new bus.new)) (λ failure. Unmade failure (machine_on B.Bus core.old bus.old) (machine_on B.Bus core.new bus.new)) }
     ensures settled { B.Bus.settings bus.new ≡ B.Bus.settings bus.old }
 {
     let mut answers = Vec::with_capacity(heap, calls.len())?;

@@ -3,7 +3,7 @@ ghost use Rattle.std.specs.Prelude.{◌≡◌, ◌+◌, ◌*◌, ◌≤◌};
 ghost use Rattle.bus.specs.Made.{Makes};
 ghost use Rattle.word.specs.Sums.{one_if};
 ghost use Rattle.arch.specs.Registers.{minus, sp};
-ghost use Rattle.arch.specs.Transfers.{registers_of, store_registers, load_registers, span as span_of, pop_pc as pop_pc_of, multiple as multiple_of};
+ghost use Rattle.arch.specs.Transfers.{registers_of, store_registers, load_registers, span as span_of, pop_pc_with, multiple as multiple_of};
 ghost use Rattle.exec.specs.Lists.{store_next, load_next, loaded_to, link_pushed};
 ghost use Rattle.exec.specs.Outcome.{Executes, outcome, returned_to};
 
@@ -139,7 +139,7 @@ fn pop_pc<B: Bus>(
     pc: bool,
     x: u32,
 ) -> Result<Flow, Fault>
-    ensures { Makes B.Bus bus.old bus.new (pop_pc_of pc right r.old x) (outcome result r.new) }
+    ensures { Makes B.Bus bus.old bus.new (pop_pc_with pc right r.old x) (outcome result r.new) }
 {
     if !pc {
         state::set_stack_pointer(r, x);

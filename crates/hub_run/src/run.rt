@@ -36,7 +36,7 @@ pub fn run(rt: &HostRuntime, image: &[u8], options: Options<'_>) -> Result<(), T
         print_view(rt, &mut hub, flat)?;
     }
     println!(rt; "\nAll turns")?;
-    tallies.print(rt)?;
+    turns::print_tallies(rt, tallies)?;
     leave_alone(rt, &mut core, &mut hub)?;
     println!(rt; "\nPanel")?;
     memory::print_words(rt, &mut hub, PANEL_BASE, 4)?;
@@ -50,7 +50,7 @@ fn leave_alone<B: Bus>(rt: &HostRuntime, core: &mut Core, bus: &mut B) -> Result
     let outcome: Outcome<Tallies> = runs::run(core, bus, ALONE)?;
     let steps = outcome.steps;
     println!(rt; "\nLeft alone for {ALONE} steps, of which it made {steps}")?;
-    outcome.tally.print(rt)?;
+    turns::print_tallies(rt, outcome.tally)?;
     Ok(())
 }
 
@@ -96,13 +96,13 @@ fn take_turn<B: Bus>(
 // Prints what a turn came to, and answers the tallies of its steps.
 fn print_played(rt: &HostRuntime, played: &Played) -> io::Result<Tallies> {
     match played {
-        Played::Answered(answers) => {
+        Ok(answers) => {
             turns::print_summary(rt, answers)?;
             let tallies: Tallies = runs::tally_of(answers);
-            tallies.print(rt)?;
+            turns::print_tallies(rt, tallies)?;
             Ok(tallies)
         }
-        Played::ResetRefused(fault) => {
+        Err(fault) => {
             turns::print_refused_reset(rt, *fault)?;
             Ok(<Tallies as Tally>::empty())
         }

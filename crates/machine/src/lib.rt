@@ -2,14 +2,14 @@
 #![tactic(auto)]
 
 ghost use Rattle.std.specs.Prelude.{◌≡◌, IfOk};
-ghost use Rattle.bus.specs.Program.{run, world_of};
+ghost use Rattle.bus.specs.Made.{Makes};
 ghost use Rattle.arch.specs.Step.{answer_to};
-ghost use Rattle.cpu.specs.Performed.{machine};
+ghost use Rattle.cpu.specs.Performed.{machine, machine_on};
 ghost use Rattle.memory.specs.Flats.{neighbour, Spare, Shut};
 ghost use Rattle.memory.specs.Prepared.{hub_world, prepared_world};
 ghost use Rattle.machine.specs.Turn.{CameTo};
 
-use arch::{Call, Response};
+use arch::{Call, Completed, Response};
 use bus::{Bus, Fault};
 use cpu::{Core, Failure};
 use memory::{Flat, Trouble};
@@ -17,13 +17,8 @@ use parts::RegionCheck;
 use std::alloc::AllocError;
 use std::io;
 
-// What a turn came to.
-#[derive(Drop)]
-pub enum Played {
-    Answered(Vec<Response>),
-    // the core could not be reset, and no call was made
-    ResetRefused(Fault),
-}
+// What a turn came to: the answers to its calls, or why the core could not be reset and no call was made.
+pub type Played = Result<Vec<Response>, Fault>;
 
 // The turn begins in a world whose regions are the flat's and whose first word of RAM is its number, and comes to what
 // the calls come to there. Where the regions that no flat has are off, no unprivileged access to the neighbour's RAM or code passes while a flat
@@ -51,15 +46,15 @@ fn make<B: Bus>(
     calls: &[Call],
     trace: bool,
 ) -> Result<Played, Trouble>
-    ensures came { CameTo result calls.now (machine core.old.registers (world_of B.Bus.bytes B.Bus.verdict bus.old)) (machine core.new.registers (world_of B.Bus.bytes B.Bus.verdict bus.new)) }
+    ensures came { CameTo result calls.now (machine_on B.Bus core.old bus.old) (machine_on B.Bus core.new bus.new) }
     ensures settled { B.Bus.settings bus.new ≡ B.Bus.settings bus.old }
 {
     if trace {
         return make_traced(rt, core, bus, calls);
     }
     match cpu::perform(rt.alloc(), core, bus, calls) {
-        Ok(answers) => Ok(Played::Answered(answers)),
-        Err(Failure::ResetRefused(fault)) => Ok(Played::ResetRefused(fault)),
+        Ok(answers) => Ok(Ok(answers)),
+        Err(Failure::ResetRefused(fault)) => Ok(Err(fault)),
         Err(Failure::OutOfMemory) => Err(Trouble::OutOfMemory(AllocError)),
     }
 }
@@ -70,19 +65,19 @@ fn make_traced<B: Bus>(
     bus: &mut B,
     calls: &[Call],
 ) -> Result<Played, Trouble>
-    ensures came { CameTo result calls.now (machine core.old.registers (world_of B.Bus.bytes B.Bus.verdict bus.old)) (machine core.new.registers (world_of B.Bus.bytes B.Bus.verdict bus.new)) }
+    ensures came { CameTo result calls.now (machine_on B.Bus core.old bus.old) (machine_on B.Bus core.new bus.new) }
     ensures settled { B.Bus.settings bus.new ≡ B.Bus.settings bus.old }
 {
     let mut answers = Vec::with_capacity(rt.alloc(), calls.len())?;
     if let Err(fault) = core.reset(bus) {
-        return Ok(Played::ResetRefused(fault));
+        return Ok(Err(fault));
     }
     let mut steps = 0u64;
     for call in calls {
         let answer = call_traced(rt, core, bus, &mut steps, *call)?;
         answers.push(answer)?;
     }
-    Ok(Played::Answered(answers))
+    Ok(Ok(answers))
 }
 
 // One call, with its line. `steps` counts the steps that were answered.
@@ -93,12 +88,12 @@ fn call_traced<B: Bus>(
     steps: &mut u64,
     call: Call,
 ) -> io::Result<Response>
-    ensures runs { IfOk result (λ x. run (answer_to call core.old.registers) (world_of B.Bus.bytes B.Bus.verdict bus.old) ≡ ((x, core.new.registers), world_of B.Bus.bytes B.Bus.verdict bus.new)) }
+    ensures made { IfOk result (λ response. Makes B.Bus bus.old bus.new (answer_to call core.old.registers) (response, core.new.registers)) }
     ensures settled { B.Bus.settings bus.new ≡ B.Bus.settings bus.old }
 {
     let seen = trace::look(bus, core.registers());
     let response = core.call(bus, call);
-    if let Response::Stepped(_) = response {
+    if let Ok(Completed::Stepped(_)) = response {
         *steps = steps.saturating_add(1);
     }
     trace::print_call(rt, *steps, call, &seen, response, core.registers())?;

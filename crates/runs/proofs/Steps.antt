@@ -7,6 +7,7 @@ use Rattle.bus.specs.Program.{World, Reply, done, run, Always}
 use Rattle.bus.specs.declared.fault.Fault.{Fault}
 use Rattle.bus.specs.declared.refusal.Refusal.{Refusal}
 use Rattle.bus.specs.declared.refusal.Refusal.TheVariants.{CoreLocked}
+use Rattle.arch.specs.Answers.{Response}
 use Rattle.arch.specs.Accesses.{try_words}
 use Rattle.arch.specs.Branches.{Done, ran, returned}
 use Rattle.arch.specs.Entry.{frame_of, frame_words, is_last, or_lock, or_hard_fault, take}
@@ -17,8 +18,7 @@ use Rattle.arch.specs.Step.{settle, instruction, begin, step, answer_to}
 use Rattle.arch.specs.declared.answers.Answer.{Answer}
 use Rattle.arch.specs.declared.answers.Answer.TheVariants.{Ran, Entered, Returned, Faulted, Locked}
 use Rattle.arch.specs.declared.answers.Call.TheVariants.{Step}
-use Rattle.arch.specs.declared.answers.Response.{Response}
-use Rattle.arch.specs.declared.answers.Response.TheVariants.{Stepped, Accepted, Refused}
+use Rattle.arch.specs.declared.answers.Completed.TheVariants.{Stepped, Accepted}
 use Rattle.arch.specs.declared.registers.Registers.{Registers}
 use Rattle.runs.specs.Run.{answer_in, answers, left}
 use Rattle.cpu.specs.Performed.{machine}
@@ -34,12 +34,12 @@ LeftBy (Locked f) t = t.locked ≡ true
 
 -- a step was made, and one that locks leaves the lock mark
 abbrev Made : Response × Registers → Type 0
-Made (Stepped answer, t) = LeftBy answer t
-Made (Accepted, t) = ⊥
-Made (Refused refusal, t) = ⊥
+Made (Ok (Stepped answer), t) = LeftBy answer t
+Made (Ok Accepted, t) = ⊥
+Made (Err refusal, t) = ⊥
 
 module _ (s : Registers) where
-  fault_made : (f : Fault) (low : Bool) → Made (Stepped (cond low (Locked f) (Faulted f)), cond low (locked_core s) (pend s 3))
+  fault_made : (f : Fault) (low : Bool) → Made (Ok (Stepped (cond low (Locked f) (Faulted f))), cond low (locked_core s) (pend s 3))
   fault_made f true = refl
   fault_made f false = tt
 
@@ -79,13 +79,13 @@ made m free = run_always Made (answer_to Step m.registers) m.world (unless_locke
 -- a machine that goes on: it is not locked, and a step of it gives this answer
 pub record Goes (m : Machine) (answer : Answer) : Type 0 where
   pub free : m.registers.locked ≡ false
-  pub answered : response Step m ≡ Stepped answer
+  pub answered : response Step m ≡ Ok (Stepped answer)
   pub locks : LeftBy answer (after_call Step m).registers
 
 goes_with : (m : Machine) (r : Response) → m.registers.locked ≡ false → response Step m ≡ r → Made (r, (after_call Step m).registers) → (answer : Answer) × Goes m answer
-goes_with m (Stepped answer) free e h = (answer, record { free = free; answered = e; locks = h })
-goes_with m Accepted free e h = absurd h
-goes_with m (Refused refusal) free e h = absurd h
+goes_with m (Ok (Stepped answer)) free e h = (answer, record { free = free; answered = e; locks = h })
+goes_with m (Ok Accepted) free e h = absurd h
+goes_with m (Err refusal) free e h = absurd h
 
 goes_if : (b : Bool) (m : Machine) → m.registers.locked ≡ b → (m.registers.locked ≡ true) ⊎ ((answer : Answer) × Goes m answer)
 goes_if true m e = inl e
@@ -116,7 +116,7 @@ unfolding left
 one_step n m answer goes = ap (λ b. cond b m (left n (after_call Step m))) goes.free
 
 -- a locked core turns a step away, and stays as it is
-refused : (m : Machine) → m.registers.locked ≡ true → (response Step m ≡ Refused CoreLocked) × (after_call Step m ≡ m)
+refused : (m : Machine) → m.registers.locked ≡ true → (response Step m ≡ Err CoreLocked) × (after_call Step m ≡ m)
 unfolding answer_to
 refused m locked =
     let begun : Bool → (Response × Registers) × World = λ b. run (begin b (chosen m.registers) m.registers) m.world in
@@ -134,7 +134,7 @@ module _ (m left : Machine) (r : Result Answer Refusal) (runs : run (step m.regi
   -- a step with an answer goes on
   pub went : (answer : Answer) → r ≡ Ok answer → Goes m answer
   went answer e =
-      let told : response Step m ≡ Stepped answer = responds ∙ ap stepped e in
+      let told : response Step m ≡ Ok (Stepped answer) = responds ∙ ap stepped e in
       elim (stops_or_goes m) [
         | inl locked ↦ let turned = (refused m locked).0 in let no : ◌≡◌ {A = ℕ} 0 1 = cc in absurd (omega arith)
         | inr on ↦ let goes = on.1.answered in let same : on.0 ≡ answer = cc in subst (Goes m) same on.1
@@ -143,7 +143,7 @@ module _ (m left : Machine) (r : Result Answer Refusal) (runs : run (step m.regi
   -- one that is refused was one of a locked core
   pub turned_away : (refusal : Refusal) → r ≡ Err refusal → (m.registers.locked ≡ true) × (left ≡ m)
   turned_away refusal e =
-      let told : response Step m ≡ Refused refusal = responds ∙ ap stepped e in
+      let told : response Step m ≡ Err refusal = responds ∙ ap stepped e in
       elim (stops_or_goes m) [
         | inl locked ↦ (locked, sym leaves ∙ (refused m locked).1)
         | inr on ↦ let goes = on.1.answered in let no : ◌≡◌ {A = ℕ} 0 1 = cc in absurd (omega arith)

@@ -1,11 +1,11 @@
 -- Laws over whole runs.
-use Rattle.std.proofs.Common.{◌≡◌, ℕ, zero, suc, ◌+◌, ◌<◌, true, List, [], ◌∷◌, ◌++◌, map, length, sym, refl, ap, ◌∙◌, subst, ap₂, inl, inr, suc-add, zero-add, arith}
+use Rattle.std.proofs.Common.{◌≡◌, ℕ, zero, suc, ◌+◌, ◌<◌, true, List, [], ◌∷◌, ◌++◌, map, length, sym, refl, ap, ◌∙◌, subst, ap₂, inl, inr, Ok, suc-add, zero-add, arith}
 use Rattle.bus.specs.declared.fault.Fault.{Fault}
 use Rattle.arch.specs.Machine.{Machine, after_call, after_calls, responses}
 use Rattle.arch.specs.declared.answers.Answer.{Answer}
 use Rattle.arch.specs.declared.answers.Answer.TheVariants.{Locked}
 use Rattle.arch.specs.declared.answers.Call.TheVariants.{Step}
-use Rattle.arch.specs.declared.answers.Response.TheVariants.{Stepped}
+use Rattle.arch.specs.declared.answers.Completed.TheVariants.{Stepped}
 use Rattle.runs.specs.Run.{answers, left, Joins, Stepwise}
 use Rattle.runs.proofs.Steps.{LeftBy, Goes, stops_or_goes, no_answer, unmoved, one_answer, one_step}
 
@@ -39,7 +39,7 @@ unfolding after_calls responses
 no_step n m none same locked = record {
   within = omega arith;
   stopped = λ h. ap (λ u. u.registers.locked) same ∙ locked h;
-  answered = sym (ap (map Stepped) none);
+  answered = sym (ap (map (λ answer. Ok (Stepped answer))) none);
   leaves = sym same;
   last = λ f before after e. none_after f before after (sym none ∙ e);
 }
@@ -57,7 +57,7 @@ unfolding after_calls responses
 step_first n m answer k goes rest = record {
   within = omega arith;
   stopped = λ h. ap (λ u. u.registers.locked) (one_step n m answer goes) ∙ rest.stopped (omega arith);
-  answered = ap₂ ◌∷◌ goes.answered rest.answered ∙ sym (ap (map Stepped) (one_answer n m answer goes));
+  answered = ap₂ ◌∷◌ goes.answered rest.answered ∙ sym (ap (map (λ answer. Ok (Stepped answer))) (one_answer n m answer goes));
   leaves = rest.leaves ∙ sym (one_step n m answer goes);
   last = λ f before after e. last_here n m answer goes rest.last f before after (sym (one_answer n m answer goes) ∙ e);
 }

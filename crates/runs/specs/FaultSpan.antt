@@ -1,26 +1,31 @@
 -- The least and the greatest fault address.
-use Rattle.std.specs.Prelude.{◌≡◌, ℕ, ◌≤◌, min, max, ◌⊎◌, List, [], ◌∷◌, ◌++◌}
+use Rattle.std.specs.Prelude.{◌≡◌, ℕ, ◌≤◌, min, max, ◌⊎◌, List, [], ◌∷◌, ◌++◌, Some, None, Option}
 use Rattle.std.specs.List.{AllByRecursion}
 use Rattle.arch.specs.declared.answers.Answer.{Answer}
 use Rattle.arch.specs.declared.answers.Answer.TheVariants.{Ran, Entered, Returned, Faulted, Locked}
 use Rattle.runs.specs.declared.fault_span.FaultSpan.{FaultSpan}
-use Rattle.runs.specs.declared.fault_span.FaultSpan.TheVariants.{NoFault, Between}
 
-abbrev pub no_span : FaultSpan
-no_span = NoFault
+abbrev pub between : ℕ → ℕ → FaultSpan
+between least greatest = record { least = least; greatest = greatest }
 
-abbrev pub span_of : Answer → FaultSpan
-span_of Ran = NoFault
-span_of (Entered n) = NoFault
-span_of Returned = NoFault
-span_of (Faulted f) = Between f.address f.address
-span_of (Locked f) = Between f.address f.address
+abbrev pub no_span : Option FaultSpan
+no_span = None
+
+abbrev pub span_of : Answer → Option FaultSpan
+span_of Ran = None
+span_of (Entered n) = None
+span_of Returned = None
+span_of (Faulted f) = Some (between f.address f.address)
+span_of (Locked f) = Some (between f.address f.address)
 
 -- the least span that has both in it
-abbrev pub hull : FaultSpan → FaultSpan → FaultSpan
-hull NoFault y = y
-hull (Between a b) NoFault = Between a b
-hull (Between a b) (Between c d) = Between (min a c) (max b d)
+abbrev pub spanning_both : FaultSpan → FaultSpan → FaultSpan
+spanning_both x y = between (min x.least y.least) (max x.greatest y.greatest)
+
+abbrev pub hull : Option FaultSpan → Option FaultSpan → Option FaultSpan
+hull None y = y
+hull (Some x) None = Some x
+hull (Some x) (Some y) = Some (spanning_both x y)
 
 abbrev pub address_in : Answer → List ℕ
 address_in Ran = []
@@ -39,9 +44,9 @@ Among x [] = ⊥
 Among x (y ∷ ys) = (x ≡ y) ⊎ Among x ys
 
 -- a span of these addresses: none where there is no address; else two of them, with all between
-abbrev pub Spanning : FaultSpan → List ℕ → Type 0
-Spanning NoFault addresses = addresses ≡ []
-Spanning (Between least greatest) addresses = Among least addresses × Among greatest addresses × AllByRecursion (λ x. (least ≤ x) × (x ≤ greatest)) addresses
+abbrev pub Spanning : Option FaultSpan → List ℕ → Type 0
+Spanning None addresses = addresses ≡ []
+Spanning (Some s) addresses = Among s.least addresses × Among s.greatest addresses × AllByRecursion (λ x. (s.least ≤ x) × (x ≤ s.greatest)) addresses
 
-abbrev pub Spans : FaultSpan → List Answer → Type 0
+abbrev pub Spans : Option FaultSpan → List Answer → Type 0
 Spans span answers = Spanning span (fault_addresses answers)

@@ -4,6 +4,7 @@ pub mod Run
 pub mod Outcome
 pub mod Tally
 pub mod Tenths
+pub mod Beside
 pub mod Counting
 pub mod Held
 pub mod Spanning

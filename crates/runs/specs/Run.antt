@@ -1,17 +1,17 @@
 -- A run of steps: what it answers, what it leaves, and the laws over runs.
-use Rattle.std.specs.Prelude.{◌≡◌, ℕ, zero, suc, ◌+◌, ◌<◌, ◌≤◌, true, cond, List, [], ◌∷◌, ◌++◌, map, replicate}
+use Rattle.std.specs.Prelude.{◌≡◌, ℕ, zero, suc, ◌+◌, ◌<◌, ◌≤◌, true, cond, List, [], ◌∷◌, ◌++◌, map, replicate, Ok, Err}
 use Rattle.bus.specs.declared.fault.Fault.{Fault}
+use Rattle.arch.specs.Answers.{Response}
 use Rattle.arch.specs.Machine.{Machine, response, after_call, after_calls, responses}
 use Rattle.arch.specs.declared.answers.Answer.{Answer}
 use Rattle.arch.specs.declared.answers.Answer.TheVariants.{Locked}
 use Rattle.arch.specs.declared.answers.Call.TheVariants.{Step}
-use Rattle.arch.specs.declared.answers.Response.{Response}
-use Rattle.arch.specs.declared.answers.Response.TheVariants.{Stepped, Accepted, Refused}
+use Rattle.arch.specs.declared.answers.Completed.TheVariants.{Stepped, Accepted}
 
 abbrev pub answer_in : Response → List Answer
-answer_in (Stepped answer) = answer ∷ []
-answer_in Accepted = []
-answer_in (Refused refusal) = []
+answer_in (Ok (Stepped answer)) = answer ∷ []
+answer_in (Ok Accepted) = []
+answer_in (Err refusal) = []
 
 -- the answers of the steps among the responses to some calls
 unfoldable pub answers_in : List Response → List Answer
@@ -44,6 +44,6 @@ RunsJoin = (n k : ℕ) (m : Machine) → Joins n k m
 pub record Stepwise (n : ℕ) (m : Machine) (steps : ℕ) : Type 0 where
   pub within : steps ≤ n
   pub stopped : steps < n → (left n m).registers.locked ≡ true
-  pub answered : responses (replicate steps Step) m ≡ map Stepped (answers n m)
+  pub answered : responses (replicate steps Step) m ≡ map (λ answer. Ok (Stepped answer)) (answers n m)
   pub leaves : after_calls (replicate steps Step) m ≡ left n m
   pub last : (f : Fault) (before after : List Answer) → answers n m ≡ before ++ (Locked f ∷ after) → after ≡ []

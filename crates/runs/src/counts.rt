@@ -5,7 +5,7 @@ ghost use Rattle.runs.specs.Counting.{counts_laws, counts_commute, counted};
 use crate::tally::Tally;
 use arch::Answer;
 
-#[derive(Clone, Copy)]
+#[derive(Clone, Copy, Debug, Default, PartialEq, Eq)]
 pub struct Counts {
     pub ran: u64,
     pub entered: u64,
@@ -13,14 +13,6 @@ pub struct Counts {
     pub faulted: u64,
     pub locked: u64,
 }
-
-const NO_COUNTS: Counts = Counts {
-    ran: 0,
-    entered: 0,
-    returned: 0,
-    faulted: 0,
-    locked: 0,
-};
 
 impl Tally for Counts {
     ghost none = { no_counts };
@@ -38,11 +30,11 @@ impl Tally for Counts {
     ghost says = { counted };
 
     fn empty() -> Counts {
-        NO_COUNTS
+        Counts::default()
     }
 
     fn of(answer: Answer) -> Counts {
-        let mut counts = NO_COUNTS;
+        let mut counts = Counts::default();
         match answer {
             Answer::Ran => counts.ran = 1,
             Answer::Entered(_) => counts.entered = 1,

@@ -1,18 +1,32 @@
 // Between which addresses the faults of a run lie.
-ghost use Rattle.runs.specs.FaultSpan.{no_span, span_of, hull, Spans};
+ghost use Rattle.std.specs.Prelude.{◌≡◌};
+ghost use Rattle.runs.specs.FaultSpan.{no_span, span_of, hull, spanning_both, Spans};
 ghost use Rattle.runs.specs.Spanning.{span_laws, span_commutes, spanned};
 
 use crate::tally::Tally;
 use arch::Answer;
 
-#[derive(Clone, Copy)]
-pub enum FaultSpan {
-    NoFault,
-    // the least fault address and the greatest
-    Between(u32, u32),
+// The least fault address and the greatest.
+#[derive(Clone, Copy, Debug, PartialEq, Eq)]
+pub struct FaultSpan {
+    pub least: u32,
+    pub greatest: u32,
 }
 
-impl Tally for FaultSpan {
+impl FaultSpan {
+    // The least span that has both in it.
+    fn hull(self, other: FaultSpan) -> FaultSpan
+        ensures { result ≡ spanning_both self other }
+    {
+        FaultSpan {
+            least: self.least.min(other.least),
+            greatest: self.greatest.max(other.greatest),
+        }
+    }
+}
+
+// None where there is no fault.
+impl Tally for Option<FaultSpan> {
     ghost none = { no_span };
 
     ghost one = { span_of };
@@ -27,27 +41,24 @@ impl Tally for FaultSpan {
 
     ghost says = { spanned };
 
-    fn empty() -> FaultSpan {
-        FaultSpan::NoFault
+    fn empty() -> Option<FaultSpan> {
+        None
     }
 
-    fn of(answer: Answer) -> FaultSpan {
+    fn of(answer: Answer) -> Option<FaultSpan> {
         match answer {
-            Answer::Ran | Answer::Entered(_) | Answer::Returned => FaultSpan::NoFault,
-            Answer::Faulted(fault) | Answer::Locked(fault) => FaultSpan::Between(
-                fault.address,
-                fault.address,
-            ),
+            Answer::Ran | Answer::Entered(_) | Answer::Returned => None,
+            Answer::Faulted(fault) | Answer::Locked(fault) => Some(FaultSpan {
+                least: fault.address,
+                greatest: fault.address,
+            }),
         }
     }
 
-    fn join(self, later: FaultSpan) -> FaultSpan {
+    fn join(self, later: Option<FaultSpan>) -> Option<FaultSpan> {
         match (self, later) {
-            (FaultSpan::NoFault, _) => later,
-            (_, FaultSpan::NoFault) => self,
-            (FaultSpan::Between(least, greatest), FaultSpan::Between(low, high)) => {
-                FaultSpan::Between(least.min(low), greatest.max(high))
-            }
+            (Some(first), Some(second)) => Some(first.hull(second)),
+            (span, None) | (None, span) => span,
         }
     }
 }

@@ -2,6 +2,7 @@
 #![tactic(auto)]
 
 mod answered;
+mod beside;
 mod counts;
 mod fault_span;
 mod outcome;

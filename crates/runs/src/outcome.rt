@@ -5,7 +5,7 @@ ghost use Rattle.runs.specs.Outcome.{joined_outcomes};
 use crate::tally::Tally;
 
 // How many steps a run made, and what their answers tally.
-#[derive(Drop)]
+#[derive(Debug, Drop, PartialEq, Eq)]
 pub struct Outcome<T> {
     pub steps: u32,
     pub tally: T,

@@ -1,8 +1,7 @@
 // Runs of many steps.
 ghost use Rattle.std.specs.Prelude.{◌≡◌, ◌+◌, ◌<◌, max, ◌&&◌, leb, IfOk, if◌then◌else◌, Ok, Err, nat_le};
-ghost use Rattle.bus.specs.Program.{world_of};
 ghost use Rattle.bus.specs.declared.refusal.Refusal.TheVariants.{OutOfRange};
-ghost use Rattle.cpu.specs.Performed.{machine};
+ghost use Rattle.cpu.specs.Performed.{machine_on};
 ghost use Rattle.runs.specs.Run.{longest, answers, left, Stepwise};
 ghost use Rattle.runs.specs.Outcome.{outcome_of};
 
@@ -16,28 +15,29 @@ const LONGEST: u32 = 65535;
 
 // At most `limit` steps; a locked core makes none, so the run ends after one that locks.
 fn make_steps<B: Bus, T: Tally>(core: &mut Core, bus: &mut B, limit: u32) -> Outcome<T>
-    ensures value { result ≡ outcome_of T.Tally.none T.Tally.one T.Tally.joined (answers limit (machine core.old.registers (world_of B.Bus.bytes B.Bus.verdict bus.old))) }
-    ensures leaves { machine core.new.registers (world_of B.Bus.bytes B.Bus.verdict bus.new) ≡ left limit (machine core.old.registers (world_of B.Bus.bytes B.Bus.verdict bus.old)) }
+    ensures value { result ≡ outcome_of T.Tally (answers limit (machine_on B.Bus core.old bus.old)) }
+    ensures leaves { machine_on B.Bus core.new bus.new ≡ left limit (machine_on B.Bus core.old bus.old) }
     ensures settled { B.Bus.settings bus.new ≡ B.Bus.settings bus.old }
 {
-    let mut steps = 0;
     let mut tally = T::empty();
-    while steps < limit {
+    for steps in 0..limit {
         let Ok(answer) = core.step(bus) else {
-            break;
+            return Outcome { steps, tally };
         };
         tally = tally.join(T::of(answer));
-        steps += 1;
     }
-    Outcome { steps, tally }
+    Outcome {
+        steps: limit,
+        tally,
+    }
 }
 
 // A run of at most `n` steps, `n` from 0 to 65535; it ends early after a step that locks.
 pub fn run<B: Bus, T: Tally>(core: &mut Core, bus: &mut B, n: u32) -> Result<Outcome<T>, Refusal>
-    ensures value { result ≡ (if leb n longest then Ok (outcome_of T.Tally.none T.Tally.one T.Tally.joined (answers n (machine core.old.registers (world_of B.Bus.bytes B.Bus.verdict bus.old)))) else Err OutOfRange) }
-    ensures leaves { machine core.new.registers (world_of B.Bus.bytes B.Bus.verdict bus.new) ≡ (if leb n longest then left n (machine core.old.registers (world_of B.Bus.bytes B.Bus.verdict bus.old)) else machine core.old.registers (world_of B.Bus.bytes B.Bus.verdict bus.old)) }
-    ensures stepwise { IfOk result (λ x. Stepwise n (machine core.old.registers (world_of B.Bus.bytes B.Bus.verdict bus.old)) x.steps) }
-    ensures says { IfOk result (λ x. T.Tally.Says x.tally (answers n (machine core.old.registers (world_of B.Bus.bytes B.Bus.verdict bus.old)))) }
+    ensures value { result ≡ (if leb n longest then Ok (outcome_of T.Tally (answers n (machine_on B.Bus core.old bus.old))) else Err OutOfRange) }
+    ensures leaves { machine_on B.Bus core.new bus.new ≡ (if leb n longest then left n (machine_on B.Bus core.old bus.old) else machine_on B.Bus core.old bus.old) }
+    ensures stepwise { IfOk result (λ x. Stepwise n (machine_on B.Bus core.old bus.old) x.steps) }
+    ensures says { IfOk result (λ x. T.Tally.Says x.tally (answers n (machine_on B.Bus core.old bus.old))) }
     ensures settled { B.Bus.settings bus.new ≡ B.Bus.settings bus.old }
     ensures refused { longest < n → bus.new ≡ bus.old }
 {
@@ -54,8 +54,8 @@ pub fn run_twice<B: Bus, T: Tally>(
     first: u32,
     second: u32,
 ) -> Result<Outcome<T>, Refusal>
-    ensures value { result ≡ (if leb first longest && nat_le second longest then Ok (outcome_of T.Tally.none T.Tally.one T.Tally.joined (answers (first + second) (machine core.old.registers (world_of B.Bus.bytes B.Bus.verdict bus.old)))) else Err OutOfRange) }
-    ensures leaves { machine core.new.registers (world_of B.Bus.bytes B.Bus.verdict bus.new) ≡ (if leb first longest && nat_le second longest then left (first + second) (machine core.old.registers (world_of B.Bus.bytes B.Bus.verdict bus.old)) else machine core.old.registers (world_of B.Bus.bytes B.Bus.verdict bus.old)) }
+    ensures value { result ≡ (if leb first longest && nat_le second longest then Ok (outcome_of T.Tally (answers (first + second) (machine_on B.Bus core.old bus.old))) else Err OutOfRange) }
+    ensures leaves { machine_on B.Bus core.new bus.new ≡ (if leb first longest && nat_le second longest then left (first + second) (machine_on B.Bus core.old bus.old) else machine_on B.Bus core.old bus.old) }
     ensures settled { B.Bus.settings bus.new ≡ B.Bus.settings bus.old }
     ensures refused { longest < max first second → bus.new ≡ bus.old }
 {

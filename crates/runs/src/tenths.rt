@@ -6,9 +6,6 @@ ghost use Rattle.runs.specs.Tenths.{hundredths as hundredths_of, rounded, Rounde
 use bus::Refusal;
 use parts::Panel;
 
-// How many of the panel's words are temperatures.
-const SUMMED: u32 = 16;
-
 // The greatest whole number of tenths that is not above five hundredths more.
 fn rounded_to_tenths(hundredths: i64) -> i64
     requires { hundredths ≤ℤ pos 2147483647 }
@@ -37,10 +34,8 @@ pub fn sum_of_tenths(panel: &Panel) -> i64
     ensures { result ≡ sum_of_first summed panel.now.words }
 {
     let mut sum = 0;
-    for index in 0..SUMMED {
-        if let Ok(tenths) = panel_tenths(panel, index) {
-            sum += i64::from(tenths);
-        }
+    for word in panel.words() {
+        sum += i64::from(tenths_of(*word));
     }
     sum
 }

@@ -1,5 +1,5 @@
 // A machine with a few words of code, and what its calls should answer.
-use arch::{Answer, Call, Response};
+use arch::{Answer, Call, Completed, Response};
 use bus::{Bus, Refusal, Right, Width};
 use cpu::Core;
 use parts::{Limit, Panel, RegionCheck, Split, Strip};
@@ -30,34 +30,18 @@ const HANDLERS: [(u32, u32); 3] = [
 
 fn put<B: Bus>(bus: &mut B, words: &[(u32, u32)]) -> Result<(), Fail> {
     for (address, word) in words {
-        if bus
-            .write(Width::Word, Right::Privileged, *address, *word)
-            .is_err()
-        {
-            return Err(Fail::new("memory that cannot be written"));
-        }
+        bus.write(Width::Word, Right::Privileged, *address, *word)?;
     }
     Ok(())
 }
 
 // Vectors, handlers, and the code at 0x100.
 pub fn load(bytes: &mut [u8], code: &[u16]) -> Result<(), Fail> {
-    let mut memory = match Strip::new(bytes, 0, 0) {
-        Ok(strip) => strip,
-        Err(refusal) => return Err(Fail::new(refusal.number())),
-    };
+    let mut memory = Strip::new(bytes, 0, 0)?;
     put(&mut memory, &VECTORS)?;
     put(&mut memory, &HANDLERS)?;
-    let mut at = 0x100u32;
-    for halfword in code {
-        let value = u32::from(*halfword);
-        if memory
-            .write(Width::Half, Right::Privileged, at, value)
-            .is_err()
-        {
-            return Err(Fail::new("too much code"));
-        }
-        at = at.wrapping_add(2);
+    for (at, halfword) in (0x100..).step_by(2).zip(code) {
+        memory.write(Width::Half, Right::Privileged, at, u32::from(*halfword))?;
     }
     Ok(())
 }
@@ -75,7 +59,7 @@ pub fn pile<'a>(bytes: &'a mut [u8]) -> Result<Memory<'a>, Refusal> {
 }
 
 // What a call should answer; a fault and a refusal by their numbers.
-#[derive(Clone, Copy)]
+#[derive(Clone, Copy, Debug, PartialEq, Eq)]
 pub enum Expected {
     Ran,
     Entered(u8),
@@ -86,23 +70,25 @@ pub enum Expected {
     Refused(u8),
 }
 
-fn agrees(response: Response, expected: Expected) -> bool {
-    match (response, expected) {
-        (Response::Stepped(answer), expected) => answer_agrees(answer, expected),
-        (Response::Accepted, Expected::Accepted) => true,
-        (Response::Refused(refusal), Expected::Refused(number)) => refusal.number() == number,
-        _ => false,
+impl From<Answer> for Expected {
+    fn from(answer: Answer) -> Expected {
+        match answer {
+            Answer::Ran => Expected::Ran,
+            Answer::Entered(number) => Expected::Entered(number),
+            Answer::Returned => Expected::Returned,
+            Answer::Faulted(fault) => Expected::Faulted(fault.cause.number()),
+            Answer::Locked(fault) => Expected::Locked(fault.cause.number()),
+        }
     }
 }
 
-fn answer_agrees(answer: Answer, expected: Expected) -> bool {
-    match (answer, expected) {
-        (Answer::Ran, Expected::Ran) => true,
-        (Answer::Entered(found), Expected::Entered(number)) => found == number,
-        (Answer::Returned, Expected::Returned) => true,
-        (Answer::Faulted(fault), Expected::Faulted(cause)) => fault.cause.number() == cause,
-        (Answer::Locked(fault), Expected::Locked(cause)) => fault.cause.number() == cause,
-        _ => false,
+impl From<Response> for Expected {
+    fn from(response: Response) -> Expected {
+        match response {
+            Ok(Completed::Stepped(answer)) => answer.into(),
+            Ok(Completed::Accepted) => Expected::Accepted,
+            Err(refusal) => Expected::Refused(refusal.number()),
+        }
     }
 }
 
@@ -110,7 +96,7 @@ fn answer_agrees(answer: Answer, expected: Expected) -> bool {
 pub fn follow<B: Bus>(core: &mut Core, bus: &mut B, rows: &[(Call, Expected)]) -> Result<(), Fail> {
     for (index, row) in rows.iter().enumerate() {
         let (call, expected) = *row;
-        if !agrees(core.call(bus, call), expected) {
+        if Expected::from(core.call(bus, call)) != expected {
             return Err(Fail::new(index.saturating_add(1)));
         }
     }

@@ -1,5 +1,6 @@
 use super::machines::{Expected, MEMORY, follow, load, pile};
 use arch::Call;
+use bus::Refusal;
 use cpu::Core;
 use std::test::Fail;
 
@@ -7,15 +8,10 @@ use std::test::Fail;
 fn machine(rt: &HostRuntime, code: &[u16], rows: &[(Call, Expected)]) -> Result<(), Fail> {
     let mut bytes = vec![in rt.alloc(); 0u8; MEMORY]?;
     load(&mut bytes, code)?;
-    let mut bus = match pile(&mut bytes) {
-        Ok(pile) => pile,
-        Err(refusal) => return Err(Fail::new(refusal.number())),
-    };
+    let mut bus = pile(&mut bytes)?;
     let mut core = Core::new();
     follow(&mut core, &mut bus, &[(Call::Step, Expected::Refused(15))])?;
-    if core.reset(&mut bus).is_err() {
-        return Err(Fail::new("no reset"));
-    }
+    core.reset(&mut bus)?;
     follow(&mut core, &mut bus, rows)
 }
 
@@ -72,22 +68,14 @@ fn calls_are_turned_away_by_number(rt: HostRuntime) -> Result<(), Fail> {
     )?;
     let mut odd = *Core::new().registers();
     odd.pc = 1;
-    match Core::with_registers(odd) {
-        Ok(_) => Err(Fail::new("a core with an odd PC")),
-        Err(refusal) => {
-            assert_eq!(rt; refusal.number(), 14);
-            Ok(())
-        },
-    }
+    let refused = Core::with_registers(odd).err();
+    assert_eq!(rt; refused.map(Refusal::number), Some(14));
+    Ok(())
 }
 
 // The code runs so many instructions, then faults with this cause, and HardFault is taken up.
 fn faults(rt: &HostRuntime, code: &[u16], instructions: usize, cause: u8) -> Result<(), Fail> {
-    let ran = [(Call::Step, Expected::Ran), (Call::Step, Expected::Ran)];
-    let mut rows = Vec::new(rt.alloc());
-    for row in ran.iter().take(instructions) {
-        rows.push(*row)?;
-    }
+    let mut rows = vec![in rt.alloc(); (Call::Step, Expected::Ran); instructions]?;
     rows.push((Call::Step, Expected::Faulted(cause)))?;
     rows.push((Call::Step, Expected::Entered(3)))?;
     machine(rt, code, &rows)

@@ -284,8 +284,9 @@ fn miscellaneous(x: u32) -> Result<Instruction, Refusal>
     match x >> 8 {
         0b1011_0000 => Ok(Instruction::Special(adjust(x))),
         0b1011_0010 | 0b1011_1010 => convert(x),
-        0b1011_0100 | 0b1011_0101 | 0b1011_1100 | 0b1011_1101 => stack(x),
+        0b1011_0100 | 0b1011_0101 => push(x),
         0b1011_0110 => change_state(x),
+        0b1011_1100 | 0b1011_1101 => pop(x),
         0b1011_1110 => Ok(Instruction::System(System::Bkpt {
             imm: field(x, 0, 8),
         })),
@@ -328,17 +329,33 @@ fn convert(x: u32) -> Result<Instruction, Refusal>
     })
 }
 
-/// PUSH and POP: 1011x10.
-fn stack(x: u32) -> Result<Instruction, Refusal>
-    requires { (x / 2 ^ 12 ≡ 11) × (x / 2 ^ 9 % 2 ^ 2 ≡ 2) }
+// PUSH and POP apart: one decoder for both took fifteen machine instructions more for each of them.
+
+/// PUSH: 1011010.
+fn push(x: u32) -> Result<Instruction, Refusal>
+    requires { x / 2 ^ 9 ≡ 90 }
     ensures { result ≡ decoded_narrow x }
 {
     let list = byte(x, 0, 8);
-    let extra = field(x, 8, 1) == 1;
-    match x >> 9 {
-        _ if list == 0 && !extra => Err(Refusal::Unpredictable),
-        0b1011_010 => Ok(Instruction::Multiple(Multiple::Push { list, lr: extra })),
-        _ => Ok(Instruction::Multiple(Multiple::Pop { list, pc: extra })),
+    let lr = field(x, 8, 1) == 1;
+    if list == 0 && !lr {
+        Err(Refusal::Unpredictable)
+    } else {
+        Ok(Instruction::Multiple(Multiple::Push { list, lr }))
+    }
+}
+
+/// POP: 1011110.
+fn pop(x: u32) -> Result<Instruction, Refusal>
+    requires { x / 2 ^ 9 ≡ 94 }
+    ensures { result ≡ decoded_narrow x }
+{
+    let list = byte(x, 0, 8);
+    let pc = field(x, 8, 1) == 1;
+    if list == 0 && !pc {
+        Err(Refusal::Unpredictable)
+    } else {
+        Ok(Instruction::Multiple(Multiple::Pop { list, pc }))
     }
 }
 

@@ -8,13 +8,12 @@ const GENERAL: [&str; 13] = [
 
 // PC is left out: the next line shows it.
 pub fn print_changes(rt: &HostRuntime, before: &Registers, after: &Registers) -> io::Result<()> {
-    for number in 0..13usize {
-        let old = before.general[number];
-        print_word(rt, GENERAL[number], old, after.general[number])?;
+    for ((name, old), new) in GENERAL.iter().zip(&before.general).zip(&after.general) {
+        print_change(rt, name, *old, *new)?;
     }
-    print_word(rt, "lr", before.lr, after.lr)?;
-    print_word(rt, "msp", before.msp, after.msp)?;
-    print_word(rt, "psp", before.psp, after.psp)?;
+    print_change(rt, "lr", before.lr, after.lr)?;
+    print_change(rt, "msp", before.msp, after.msp)?;
+    print_change(rt, "psp", before.psp, after.psp)?;
     print_flags(rt, before, after)?;
     print_marks(rt, before, after)?;
     print_sets(rt, before, after)?;
@@ -22,38 +21,32 @@ pub fn print_changes(rt: &HostRuntime, before: &Registers, after: &Registers) ->
 }
 
 fn print_flags(rt: &HostRuntime, before: &Registers, after: &Registers) -> io::Result<()> {
-    print_mark(rt, "n", before.flags.n, after.flags.n)?;
-    print_mark(rt, "z", before.flags.z, after.flags.z)?;
-    print_mark(rt, "c", before.flags.c, after.flags.c)?;
-    print_mark(rt, "v", before.flags.v, after.flags.v)
+    print_change(rt, "n", before.flags.n, after.flags.n)?;
+    print_change(rt, "z", before.flags.z, after.flags.z)?;
+    print_change(rt, "c", before.flags.c, after.flags.c)?;
+    print_change(rt, "v", before.flags.v, after.flags.v)
 }
 
 fn print_marks(rt: &HostRuntime, before: &Registers, after: &Registers) -> io::Result<()> {
-    print_mark(rt, "t", before.thumb, after.thumb)?;
-    print_mark(rt, "primask", before.primask, after.primask)?;
-    print_mark(rt, "npriv", before.control.npriv, after.control.npriv)?;
-    print_mark(rt, "spsel", before.control.spsel, after.control.spsel)?;
-    print_mark(rt, "locked", before.locked, after.locked)
+    print_change(rt, "t", before.thumb, after.thumb)?;
+    print_change(rt, "primask", before.primask, after.primask)?;
+    print_change(rt, "npriv", before.control.npriv, after.control.npriv)?;
+    print_change(rt, "spsel", before.control.spsel, after.control.spsel)?;
+    print_change(rt, "locked", before.locked, after.locked)
 }
 
 // Sets have a bit for each exception.
 fn print_sets(rt: &HostRuntime, before: &Registers, after: &Registers) -> io::Result<()> {
     let old = before.exceptions;
     let new = after.exceptions;
-    print_set(rt, "pending", old.pending, new.pending)?;
-    print_set(rt, "active", old.active, new.active)?;
-    print_set(rt, "armed", old.armed, new.armed)
+    print_change(rt, "pending", old.pending, new.pending)?;
+    print_change(rt, "active", old.active, new.active)?;
+    print_change(rt, "armed", old.armed, new.armed)
 }
 
-fn print_word(rt: &HostRuntime, name: &str, old: u32, new: u32) -> io::Result<()> {
-    print_set(rt, name, u64::from(old), u64::from(new))
-}
-
-fn print_mark(rt: &HostRuntime, name: &str, old: bool, new: bool) -> io::Result<()> {
-    print_set(rt, name, u64::from(old), u64::from(new))
-}
-
-fn print_set(rt: &HostRuntime, name: &str, old: u64, new: u64) -> io::Result<()> {
+fn print_change<T: Into<u64>>(rt: &HostRuntime, name: &str, old: T, new: T) -> io::Result<()> {
+    let old: u64 = old.into();
+    let new: u64 = new.into();
     if old == new {
         return Ok(());
     }

@@ -1,7 +1,7 @@
 // The lines of a trace.
 use crate::changes::print_changes;
 use crate::seen::Seen;
-use arch::{Answer, Call, Registers, Response};
+use arch::{Answer, Call, Completed, Registers, Response};
 use listing::Line;
 use std::{fmt, io};
 use terms::{ExceptionText, FaultAt, RefusalText};
@@ -26,7 +26,7 @@ pub fn print_call(
 fn print_asked(rt: &HostRuntime, call: Call, before: &Seen, response: Response) -> io::Result<()> {
     match call {
         Call::Step => match response {
-            Response::Stepped(Answer::Entered(_)) => Ok(()),
+            Ok(Completed::Stepped(Answer::Entered(_))) => Ok(()),
             _ => print_instruction(rt, before),
         },
         Call::Raise(number) => print!(rt; "host raises {number}"),
@@ -51,9 +51,9 @@ fn print_instruction(rt: &HostRuntime, before: &Seen) -> io::Result<()> {
 // `current` is the exception that was current before the call.
 fn print_response(rt: &HostRuntime, current: u8, response: Response) -> io::Result<()> {
     match response {
-        Response::Stepped(answer) => print_answer(rt, current, answer),
-        Response::Accepted => Ok(()),
-        Response::Refused(refusal) => print_event(rt, "  refused", RefusalText(refusal)),
+        Ok(Completed::Stepped(answer)) => print_answer(rt, current, answer),
+        Ok(Completed::Accepted) => Ok(()),
+        Err(refusal) => print_event(rt, "  refused", RefusalText(refusal)),
     }
 }
 

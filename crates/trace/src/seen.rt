@@ -1,5 +1,6 @@
 // A core before a call, with the encoding that its PC points to.
 ghost use Rattle.std.specs.Prelude.{◌≡◌};
+ghost use Rattle.bus.specs.Made.{Leaves};
 ghost use Rattle.trace.specs.Seen.{piece_at};
 
 use arch::Registers;
@@ -7,7 +8,7 @@ use bus::{Bus, Right};
 use listing::Piece;
 use thumb::is_wide;
 
-#[derive(Clone, Copy)]
+#[derive(Clone, Copy, Debug, PartialEq, Eq)]
 pub struct Seen {
     pub registers: Registers,
     // nothing where no fetch is allowed
@@ -15,9 +16,7 @@ pub struct Seen {
 }
 
 pub fn look<B: Bus>(bus: &mut B, registers: &Registers) -> Seen
-    ensures contents { B.Bus.bytes bus.new ≡ B.Bus.bytes bus.old }
-    ensures verdicts { B.Bus.verdict bus.new ≡ B.Bus.verdict bus.old }
-    ensures settled { B.Bus.settings bus.new ≡ B.Bus.settings bus.old }
+    ensures leaves { Leaves B.Bus bus.old bus.new }
     ensures value { result ≡ record { registers = registers.entry.now; piece = piece_at (B.Bus.bytes bus.old) (B.Bus.verdict bus.old) registers.entry.now.pc } }
 {
     Seen {
@@ -28,14 +27,10 @@ pub fn look<B: Bus>(bus: &mut B, registers: &Registers) -> Seen
 
 // What stands at an address, as the host may fetch it.
 fn piece_at<B: Bus>(bus: &mut B, address: u32) -> Option<Piece>
+    ensures leaves { Leaves B.Bus bus.old bus.new }
     ensures value { result ≡ piece_at (B.Bus.bytes bus.old) (B.Bus.verdict bus.old) address }
-    ensures contents { B.Bus.bytes bus.new ≡ B.Bus.bytes bus.old }
-    ensures verdicts { B.Bus.verdict bus.new ≡ B.Bus.verdict bus.old }
-    ensures settled { B.Bus.settings bus.new ≡ B.Bus.settings bus.old }
 {
-    let Ok(first) = bus.fetch(Right::Privileged, address) else {
-        return None;
-    };
+    let first = bus.fetch(Right::Privileged, address).ok()?;
     if !is_wide(first) {
         return Some(Piece::Narrow(first));
     }

@@ -1,4 +1,2 @@
 pub mod Counts
 pub mod Plan
-pub mod Tallies
-pub mod Side

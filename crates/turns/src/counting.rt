@@ -2,9 +2,9 @@
 ghost use Rattle.std.specs.Prelude.{◌≡◌};
 ghost use Rattle.turns.specs.Counts.{none, counted, counted_all};
 
-use arch::Response;
+use arch::{Completed, Response};
 
-#[derive(Clone, Copy)]
+#[derive(Clone, Copy, Debug, Default, PartialEq, Eq)]
 pub struct Counts {
     // steps that were answered
     pub stepped: u64,
@@ -19,9 +19,9 @@ impl Counts {
         ensures { self.new ≡ counted self.old response }
     {
         match response {
-            Response::Stepped(_) => self.stepped = self.stepped.saturating_add(1),
-            Response::Accepted => self.accepted = self.accepted.saturating_add(1),
-            Response::Refused(_) => self.refused = self.refused.saturating_add(1),
+            Ok(Completed::Stepped(_)) => self.stepped = self.stepped.saturating_add(1),
+            Ok(Completed::Accepted) => self.accepted = self.accepted.saturating_add(1),
+            Err(_) => self.refused = self.refused.saturating_add(1),
         }
     }
 }
@@ -29,11 +29,7 @@ impl Counts {
 pub fn count(responses: &[Response]) -> Counts
     ensures { result ≡ counted_all none responses.now }
 {
-    let mut counts = Counts {
-        stepped: 0,
-        accepted: 0,
-        refused: 0,
-    };
+    let mut counts = Counts::default();
     for response in responses {
         counts.note(*response);
     }

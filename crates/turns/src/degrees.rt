@@ -24,16 +24,13 @@ fn print_temperature(rt: &HostRuntime, tenths: i64) -> io::Result<()> {
 
 // Prints the sixteen words as degrees, four to a line, and their sum.
 pub fn print_degrees(rt: &HostRuntime, panel: &Panel) -> io::Result<()> {
-    for index in 0..16u32 {
-        if index % 4 == 0 {
-            print!(rt; "  {index:>3}")?;
+    for (row, words) in panel.words().chunks(4).enumerate() {
+        let first = 4 * row;
+        print!(rt; "  {first:>3}")?;
+        for word in words {
+            print_temperature(rt, i64::from(runs::tenths_of(*word)))?;
         }
-        if let Ok(tenths) = runs::panel_tenths(panel, index) {
-            print_temperature(rt, i64::from(tenths))?;
-        }
-        if index % 4 == 3 {
-            println!(rt)?;
-        }
+        println!(rt)?;
     }
     print!(rt; "  sum")?;
     print_temperature(rt, runs::sum_of_tenths(panel))?;

@@ -11,4 +11,4 @@ pub use counting::{Counts, count};
 pub use degrees::print_degrees;
 pub use planning::{flat_of, plan};
 pub use summary::{print_refused_reset, print_summary};
-pub use tallies::Tallies;
+pub use tallies::{Tallies, print_tallies};

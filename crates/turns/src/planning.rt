@@ -34,8 +34,8 @@ pub fn plan(heap: Global, steps: u32, tick: u32) -> Result<Vec<Call>, AllocError
 {
     let mut calls = Vec::new(heap);
     calls.extend_from_slice(&OPENING)?;
-    for made in 0..steps {
-        calls.extend_from_slice(step_with_due(made + 1, tick, steps / 2))?;
+    for made in 1..=steps {
+        calls.extend_from_slice(step_with_due(made, tick, steps / 2))?;
     }
     Ok(calls)
 }

@@ -1,6 +1,6 @@
 // What came of a turn's calls: the entries, returns, faults and refusals, each with the step that it came at.
-use crate::counting::count;
-use arch::{Answer, Response};
+use crate::counting::{Counts, count};
+use arch::{Answer, Completed, Response};
 use bus::{Fault, Refusal};
 use std::{fmt, io};
 use terms::{ExceptionText, FaultAt, RefusalText};
@@ -12,19 +12,17 @@ pub fn print_summary(rt: &HostRuntime, responses: &[Response]) -> io::Result<()>
     let mut locked = false;
     for response in responses {
         match *response {
-            Response::Stepped(answer) => {
+            Ok(Completed::Stepped(answer)) => {
                 step = step.saturating_add(1);
                 print_answer(rt, &mut open, step, answer)?;
             }
-            Response::Accepted => {}
-            Response::Refused(Refusal::CoreLocked) => {
-                // it refuses every step of the turn: that is told once
-                if !locked {
-                    print_event(rt, step, "refused", RefusalText(Refusal::CoreLocked))?;
-                }
-                locked = true;
+            Ok(Completed::Accepted) => {}
+            // it refuses every step of the turn: that is told once
+            Err(Refusal::CoreLocked) if locked => {}
+            Err(refusal) => {
+                locked = locked || refusal == Refusal::CoreLocked;
+                print_event(rt, step, "refused", RefusalText(refusal))?;
             }
-            Response::Refused(refusal) => print_event(rt, step, "refused", RefusalText(refusal))?,
         }
     }
     print_counts(rt, responses)
@@ -64,9 +62,10 @@ pub fn print_refused_reset(rt: &HostRuntime, fault: Fault) -> io::Result<()> {
 
 // The end of a turn's summary. What else is to be told of all its responses belongs here.
 fn print_counts(rt: &HostRuntime, responses: &[Response]) -> io::Result<()> {
-    let counts = count(responses);
-    let stepped = counts.stepped;
-    let accepted = counts.accepted;
-    let refused = counts.refused;
+    let Counts {
+        stepped,
+        accepted,
+        refused,
+    } = count(responses);
     println!(rt; "  {stepped} steps answered, {accepted} other calls accepted, {refused} refused")
 }

@@ -1,73 +1,29 @@
-// Both tallies of some steps, as one kind: the counts of their answers, and the span of their faults.
-ghost use Rattle.std.specs.Prelude.{◌≡◌};
-ghost use Rattle.turns.specs.Tallies.{no_tallies, tallies_of, both, Told};
-ghost use Rattle.turns.specs.Side.{both_laws, both_commute, told};
-
-use arch::Answer;
-use runs::{Counts, FaultSpan, Tally};
+// Both tallies of some steps, as one kind.
+use runs::{Counts, FaultSpan};
 use std::io;
 
-#[derive(Clone, Copy)]
-pub struct Tallies {
-    pub counts: Counts,
-    pub faults: FaultSpan,
-}
+// The counts of the answers, and the span of the faults.
+pub type Tallies = (Counts, Option<FaultSpan>);
 
-impl Tally for Tallies {
-    ghost none = { no_tallies };
-
-    ghost one = { tallies_of };
-
-    ghost joined = { both };
-
-    ghost Says = { Told };
-
-    ghost laws = { both_laws };
-
-    ghost commutes = { both_commute };
-
-    ghost says = { told };
-
-    fn empty() -> Tallies {
-        Tallies {
-            counts: <Counts as Tally>::empty(),
-            faults: <FaultSpan as Tally>::empty(),
-        }
-    }
-
-    fn of(answer: Answer) -> Tallies {
-        Tallies {
-            counts: <Counts as Tally>::of(answer),
-            faults: <FaultSpan as Tally>::of(answer),
-        }
-    }
-
-    fn join(self, later: Tallies) -> Tallies {
-        Tallies {
-            counts: self.counts.join(later.counts),
-            faults: self.faults.join(later.faults),
-        }
-    }
-}
-
-impl Tallies {
-    pub fn print(&self, rt: &HostRuntime) -> io::Result<()> {
-        print_counted(rt, self.counts)?;
-        match self.faults {
-            FaultSpan::NoFault => println!(rt; "  no fault"),
-            FaultSpan::Between(least, greatest) => println!(rt;
-                "  fault addresses from 0x{least:08x} to 0x{greatest:08x}"
-            ),
-        }
+pub fn print_tallies(rt: &HostRuntime, tallies: Tallies) -> io::Result<()> {
+    let (counts, faults) = tallies;
+    print_counted(rt, counts)?;
+    match faults {
+        Some(FaultSpan { least, greatest }) => println!(rt;
+            "  fault addresses from 0x{least:08x} to 0x{greatest:08x}"
+        ),
+        None => println!(rt; "  no fault"),
     }
 }
 
 fn print_counted(rt: &HostRuntime, counts: Counts) -> io::Result<()> {
-    let ran = counts.ran;
-    let entered = counts.entered;
-    let returned = counts.returned;
-    let faulted = counts.faulted;
-    let locked = counts.locked;
+    let Counts {
+        ran,
+        entered,
+        returned,
+        faulted,
+        locked,
+    } = counts;
     println!(rt;
         "  ran {ran}, entered {entered}, returned {returned}, faulted {faulted}, locked {locked}"
     )

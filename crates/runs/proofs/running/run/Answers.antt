@@ -1,8 +1,7 @@
 use Rattle.std.proofs.Common.{◌≡◌, ◌≤◌, true, leb, Ok, sym, ap, ◌∙◌, subst, arith, le-leb}
 use Rattle.std.proofs.lemmas.Bool.{cond-true}
-use Rattle.bus.specs.Program.{world_of}
 use Rattle.arch.specs.Machine.{Machine}
-use Rattle.cpu.specs.Performed.{machine}
+use Rattle.cpu.specs.Performed.{machine_on}
 use Rattle.runs.specs.Run.{longest, answers, Stepwise}
 use Rattle.runs.proofs.Whole.{stepwise}
 use Rattle.runs.proofs.running.run.Goals as goal
@@ -11,7 +10,7 @@ pub returns : goal.returns
 returns g c =
     let fits : c.args.n ≤ longest = omega arith in
     let test : leb c.args.n longest ≡ true = le-leb _ _ fits in
-    let start : Machine = machine c.args.core.now.registers (world_of g.B.Bus.bytes g.B.Bus.verdict c.args.bus.now) in
+    let start : Machine = machine_on g.B.Bus c.args.core.now c.args.bus.now in
     record {
       value = ap Ok c.make_steps.ensures.value ∙ sym (cond-true _ _ _ test);
       leaves = c.make_steps.ensures.leaves ∙ sym (cond-true _ _ _ test);

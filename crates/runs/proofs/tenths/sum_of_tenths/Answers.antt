@@ -1,27 +1,18 @@
-use Rattle.std.proofs.Common.{◌≡◌, ◌<◌, true, ltb, get_or, ◌+ℤ◌, sym, refl, ◌∙◌, ap₂, add-one, arith, lt-ltb}
+use Rattle.std.proofs.Common.{◌≡◌, get_or, ◌+ℤ◌, to_z, of_z, w64, sym, refl, ap, ◌∙◌, ap₂, add-one, arith}
 use Rattle.std.proofs.lemmas.Int.{ints}
 use Rattle.runs.specs.Tenths.{hundredths, rounded, sum_of_first}
 use Rattle.runs.proofs.tenths.sum_of_tenths.Goals as goal
-use Rattle.runs.proofs.tenths.sum_of_tenths.Goals.{in-Ok, in_default}
 
-pub loop-index-init : goal.loop-index-init
+pub loop-word-init : goal.loop-word-init
 unfolding sum_of_first
-loop-index-init c = (refl, omega (arith, ints), omega (arith, ints))
+loop-word-init c = (refl, omega (arith, ints), omega (arith, ints))
 
-pub overflow_add-sum : goal.overflow_add-sum
-overflow_add-sum c = omega (arith, ints)
-
-pub loop-index-preserved : goal.loop-index-preserved
+pub loop-word-preserved : goal.loop-word-preserved
 unfolding sum_of_first
-loop-index-preserved c =
-    let on_panel : c.loop-index.index < 16 = omega arith in
-    let test : ltb c.loop-index.index 16 ≡ true = lt-ltb _ _ on_panel in
-    elim c.match-panel_tenths.branch [
-      | in-Ok w ↦
-          let answer = rw test at w.in-Ok.ensures in
-          let tenths : w.in-Ok.tenths ≡ rounded (hundredths (get_or c.args.panel.now.words c.loop-index.index 0)) = cc in
-          let sum : c.match-panel_tenths.sum ≡ c.loop-index.sum +ℤ w.in-Ok.tenths = omega (arith, ints) in
-          let before = sym c.loop-index.sum-is ∙ c.loop-index.invariant.0 in
-          (rw add-one (c.match-panel_tenths.sum-is ∙ sum ∙ ap₂ ◌+ℤ◌ before tenths), omega (arith, ints), omega (arith, ints))
-      | in_default w ↦ absurd (w.in_default.not-Ok _ (rw test at c.panel_tenths.ensures))
-    ]
+loop-word-preserved c =
+    let i = c.loop-word.word-index in
+    let widened : c.from-sum.result ≡ c.tenths_of.result = omega (arith, ints) in
+    let tenths = widened ∙ c.tenths_of.ensures.value ∙ ap (λ words. rounded (hundredths (get_or words i 0))) c.words-word-items.ensures in
+    let sum : to_z w64 (of_z w64 (to_z w64 c.loop-word.sum-bits +ℤ to_z w64 (of_z w64 c.from-sum.result))) ≡ c.loop-word.sum +ℤ c.from-sum.result = omega (arith, ints) in
+    let before = sym c.loop-word.sum-is ∙ c.loop-word.invariant.0 in
+    (rw add-one (sum ∙ ap₂ ◌+ℤ◌ before tenths), omega (arith, ints), omega (arith, ints))
