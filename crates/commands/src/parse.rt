@@ -6,15 +6,16 @@ use bus::{Access, Right, Use, Width};
 use memory::Flat;
 use std::fmt;
 use std::str::SplitWhitespace;
+use thiserror::Error;
 
 // One access, with what a write stores.
-#[derive(Clone, Copy)]
+#[derive(Clone, Copy, Debug, PartialEq, Eq)]
 pub struct Request {
     pub access: Access,
     pub value: u32,
 }
 
-#[derive(Clone, Copy)]
+#[derive(Clone, Copy, Debug, PartialEq, Eq)]
 pub enum Command {
     // make this access
     Ask(Request),
@@ -23,39 +24,38 @@ pub enum Command {
 }
 
 // What a line should have had where it went wrong.
-#[derive(Clone, Copy)]
+#[derive(Clone, Copy, Debug, PartialEq, Eq, Error)]
 pub enum Wanted {
+    #[error("`privileged`, `unprivileged` or `flat`")]
     Command,
+    #[error("`fetch`, `read` or `write`")]
     Usage,
+    #[error("`byte`, `half` or `word`")]
     Width,
+    #[error("an address from 0 to 0xffffffff")]
     Address,
+    #[error("a value from 0 to 0x{most:x}", most = largest(*.0))]
     Value(Width),
+    #[error("`1` or `2`")]
     Flat,
+    #[error("the end of the line")]
     End,
 }
 
-impl fmt::Display for Wanted {
-    fn fmt<W: fmt::Write>(&self, f: &mut fmt::Formatter<W>) -> fmt::Result {
-        match self {
-            Wanted::Command => write!(f, "`privileged`, `unprivileged` or `flat`"),
-            Wanted::Usage => write!(f, "`fetch`, `read` or `write`"),
-            Wanted::Width => write!(f, "`byte`, `half` or `word`"),
-            Wanted::Address => write!(f, "an address from 0 to 0xffffffff"),
-            Wanted::Value(width) => {
-                let most = largest(*width);
-                write!(f, "a value from 0 to 0x{most:x}")
-            }
-            Wanted::Flat => write!(f, "`1` or `2`"),
-            Wanted::End => write!(f, "the end of the line"),
-        }
-    }
-}
-
 // Why a line is no command. Nothing was found where the line ended too early.
-#[derive(Clone, Copy)]
+#[derive(Clone, Copy, Debug, PartialEq, Eq)]
 pub struct Mistake<'a> {
     wanted: Wanted,
     found: Option<&'a str>,
+}
+
+impl Wanted {
+    fn in_place_of(self, found: Option<&str>) -> Mistake<'_> {
+        Mistake {
+            wanted: self,
+            found,
+        }
+    }
 }
 
 impl<'a> fmt::Display for Mistake<'a> {
@@ -91,17 +91,11 @@ pub fn read_line(line: &str) -> Result<Command, Mistake<'_>> {
         Some("flat") => Command::HandTo(parse_flat(words.next())?),
         Some("privileged") => Command::Ask(parse_request(Right::Privileged, &mut words)?),
         Some("unprivileged") => Command::Ask(parse_request(Right::Unprivileged, &mut words)?),
-        found => return Err(Mistake {
-            wanted: Wanted::Command,
-            found,
-        }),
+        found => return Err(Wanted::Command.in_place_of(found)),
     };
     match words.next() {
         None => Ok(command),
-        found => Err(Mistake {
-            wanted: Wanted::End,
-            found,
-        }),
+        found => Err(Wanted::End.in_place_of(found)),
     }
 }
 
@@ -109,58 +103,33 @@ fn parse_request<'a>(
     right: Right,
     words: &mut SplitWhitespace<'a>,
 ) -> Result<Request, Mistake<'a>> {
-    match words.next() {
-        Some("fetch") => {
-            let address = parse_address(words.next())?;
-            Ok(Request {
-                access: Access {
-                    usage: Use::Fetch,
-                    right,
-                    address,
-                },
-                value: 0,
-            })
-        }
-        Some("read") => {
-            let width = parse_width(words.next())?;
-            let address = parse_address(words.next())?;
-            Ok(Request {
-                access: Access {
-                    usage: Use::Read(width),
-                    right,
-                    address,
-                },
-                value: 0,
-            })
-        }
-        Some("write") => {
-            let width = parse_width(words.next())?;
-            let address = parse_address(words.next())?;
-            let value = parse_value(width, words.next())?;
-            Ok(Request {
-                access: Access {
-                    usage: Use::Write(width),
-                    right,
-                    address,
-                },
-                value,
-            })
-        }
-        found => Err(Mistake {
-            wanted: Wanted::Usage,
-            found,
-        }),
-    }
+    let usage = match words.next() {
+        Some("fetch") => Use::Fetch,
+        Some("read") => Use::Read(parse_width(words.next())?),
+        Some("write") => Use::Write(parse_width(words.next())?),
+        found => return Err(Wanted::Usage.in_place_of(found)),
+    };
+    let address = parse_number(words.next(), u32::MAX, Wanted::Address)?;
+    let value = match usage {
+        Use::Write(width) => parse_number(words.next(), largest(width), Wanted::Value(width))?,
+        Use::Fetch | Use::Read(_) => 0,
+    };
+    Ok(Request {
+        access: Access {
+            usage,
+            right,
+            address,
+        },
+        value,
+    })
 }
 
+// Flats and widths are other crates' types, and what is refused is shown: so these are functions, and no FromStr.
 fn parse_flat(found: Option<&str>) -> Result<Flat, Mistake<'_>> {
     match found {
         Some("1") => Ok(Flat::One),
         Some("2") => Ok(Flat::Two),
-        _ => Err(Mistake {
-            wanted: Wanted::Flat,
-            found,
-        }),
+        _ => Err(Wanted::Flat.in_place_of(found)),
     }
 }
 
@@ -169,41 +138,25 @@ fn parse_width(found: Option<&str>) -> Result<Width, Mistake<'_>> {
         Some("byte") => Ok(Width::Byte),
         Some("half") => Ok(Width::Half),
         Some("word") => Ok(Width::Word),
-        _ => Err(Mistake {
-            wanted: Wanted::Width,
-            found,
-        }),
+        _ => Err(Wanted::Width.in_place_of(found)),
     }
-}
-
-fn parse_address(found: Option<&str>) -> Result<u32, Mistake<'_>> {
-    parse_number(found, u32::MAX, Wanted::Address)
-}
-
-fn parse_value(width: Width, found: Option<&str>) -> Result<u32, Mistake<'_>> {
-    parse_number(found, largest(width), Wanted::Value(width))
 }
 
 // A number up to `most`.
 fn parse_number(found: Option<&str>, most: u32, wanted: Wanted) -> Result<u32, Mistake<'_>> {
-    if let Some(word) = found {
-        if let Some(n) = number(word) {
-            if n <= most {
-                return Ok(n);
-            }
-        }
-    }
-    Err(Mistake { wanted, found })
+    let named = found.and_then(number).filter(|n| *n <= most);
+    named.ok_or(wanted.in_place_of(found))
 }
 
 // A number in decimal, or in hexadecimal after `0x`.
 fn number(word: &str) -> Option<u32> {
+    let (digits, radix) = match word.strip_prefix("0x") {
+        Some(digits) => (digits, 16),
+        None => (word, 10),
+    };
     // from_str_radix would take a sign
-    if word.contains('+') {
+    if digits.starts_with('+') {
         return None;
     }
-    match word.strip_prefix("0x") {
-        Some(digits) => u32::from_str_radix(digits, 16).ok(),
-        None => u32::from_str_radix(word, 10).ok(),
-    }
+    u32::from_str_radix(digits, radix).ok()
 }

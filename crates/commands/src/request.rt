@@ -7,6 +7,7 @@ use crate::parse::Request;
 use bus::{Right, Use, Width};
 use std::fmt;
 
+// Words that a contract states are functions: of what a Display writes no contract speaks.
 fn right_word(right: Right) -> &'static str
     ensures { result.now ≡ right_word right }
 {
@@ -30,11 +31,7 @@ fn width_word(width: Width) -> &'static str
 pub fn digits(width: Width) -> usize
     ensures { result ≡ 2 * size width }
 {
-    match width {
-        Width::Byte => 2,
-        Width::Half => 4,
-        Width::Word => 8,
-    }
+    2 * width.size() as usize
 }
 
 impl fmt::Display for Request {

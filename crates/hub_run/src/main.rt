@@ -2,7 +2,6 @@
 #![tactic(auto)]
 
 ghost use Rattle.std.specs.Prelude.{◌≤◌, IfOk, vec_len};
-ghost use Rattle.options.specs.Counts.{Ranged};
 
 mod error;
 mod run;
@@ -49,9 +48,7 @@ fn answer(rt: &HostRuntime) -> Result<(), HubError> {
     }
 }
 
-fn run_image(rt: &HostRuntime, options: Options<'_>) -> Result<(), HubError>
-    requires { Ranged options }
-{
+fn run_image(rt: &HostRuntime, options: Options<'_>) -> Result<(), HubError> {
     match options.image {
         None => run::run(rt, &IMAGE, options)?,
         Some(path) => {

@@ -1,7 +1,6 @@
 // Runs an image: in each turn the regions are one flat's, and the core is reset and makes the turn's calls.
 ghost use Rattle.std.specs.Prelude.{◌≡◌};
 ghost use Rattle.memory.specs.Flats.{neighbour, Spare, Shut};
-ghost use Rattle.options.specs.Counts.{Ranged};
 
 use arch::Call;
 use bus::Bus;
@@ -18,9 +17,7 @@ use turns::Tallies;
 const ALONE: u32 = 100;
 
 // Runs the turns that the options ask for, and prints what came of each and the panel at the end.
-pub fn run(rt: &HostRuntime, image: &[u8], options: Options<'_>) -> Result<(), Trouble>
-    requires { Ranged options }
-{
+pub fn run(rt: &HostRuntime, image: &[u8], options: Options<'_>) -> Result<(), Trouble> {
     let heap = rt.alloc();
     let mut flash = vec![in heap; 0u8; FLASH_SIZE as usize]?;
     let mut ram = vec![in heap; 0u8; RAM_SIZE as usize]?;

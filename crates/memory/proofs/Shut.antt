@@ -1,5 +1,6 @@
 -- While one flat runs, its neighbour's RAM and code are shut.
-use Rattle.std.proofs.Common.{◌≡◌, ℕ, ◌/◌, ◌^◌, ◌<◌, Bool, true, false, ◌&&◌, eqb, List, [], ◌∷◌, length, drop, replicate, Some, Option, refl, ap, ◌∙◌, inl, inr, arith, eq-eqb, ne_eqb, eqb-true}
+use Rattle.std.proofs.Common.{◌≡◌, ℕ, ◌/◌, ◌^◌, ◌<◌, Bool, true, false, eqb, List, [], ◌∷◌, length, drop, replicate, Some, Option, refl, ap, ◌∙◌, inl, inr, arith, eq-eqb, ne_eqb, eqb-true}
+use Rattle.std.proofs.Math.Bool.{and-true}
 use native.Mathlib.Nat.{zero-div}
 use Rattle.bus.specs.declared.access.Right.{Right}
 use Rattle.bus.specs.declared.access.Use.{Use}
@@ -27,10 +28,6 @@ anew flat (a ∷ b ∷ c ∷ []) spare = absurd (omega (arith, ap length spare))
 anew flat (a ∷ b ∷ c ∷ d ∷ []) spare = absurd (omega (arith, ap length spare))
 anew flat (a ∷ b ∷ c ∷ d ∷ e ∷ []) spare = absurd (omega (arith, ap length spare))
 
-and_true : (b : Bool) → (b && true) ≡ b
-and_true true = refl
-and_true false = refl
-
 -- a region of 1024 bytes for the supervisor only
 abbrev kilobyte : ℕ → Bool → Region
 kilobyte base closed = record { base = base; exponent = 10; rights = Privileged; no_fetch = closed; sub_marks = 0 }
@@ -42,7 +39,7 @@ denied (Write width) right base closed user = user
 
 -- what a region covers does not hang on its rights, so these serve for each region of its size
 kilobyte_covers : (base x : ℕ) → region_covers (kilobyte base true) x ≡ eqb (x / 1024) (base / 1024)
-kilobyte_covers base x = rw (zero-div (2 ^ eighth 10 x)) (and_true (eqb (x / 1024) (base / 1024)))
+kilobyte_covers base x = rw (zero-div (2 ^ eighth 10 x)) (and-true (eqb (x / 1024) (base / 1024)))
 
 hit : (base x : ℕ) → x / 1024 ≡ base / 1024 → region_covers (kilobyte base true) x ≡ true
 hit base x same = kilobyte_covers base x ∙ eq-eqb _ _ same

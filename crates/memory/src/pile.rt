@@ -1,5 +1,5 @@
 // The hub's memory: flash, RAM and a panel side by side, under a region check that is set for two flats.
-ghost use Rattle.std.specs.Prelude.{◌≡◌, ◌≤◌, true, ◌++◌, length, drop, replicate, IfOk, if◌then◌else◌, Ok, Err, nat_le};
+ghost use Rattle.std.specs.Prelude.{◌≡◌, true, ◌++◌, length, drop, replicate, IfOk, if◌then◌else◌, Ok, Err, nat_le};
 ghost use Rattle.bus.specs.declared.refusal.Refusal.TheVariants.{BadSetting};
 ghost use Rattle.parts.specs.Region.{off_region};
 ghost use Rattle.memory.specs.Flats.{both_wait, Spare};
@@ -30,17 +30,8 @@ pub fn burn(flash: &mut [u8], image: &[u8]) -> Result<(), Refusal>
         return Err(Refusal::BadSetting);
     }
     flash.fill(ERASED);
-    overwrite(flash, image);
+    flash[..image.len()].copy_from_slice(image);
     Ok(())
-}
-
-// Puts bytes over the first ones.
-fn overwrite(all: &mut [u8], first: &[u8])
-    requires { length first.now ≤ length all.old }
-    ensures { all.new ≡ first.now ++ drop (length first.now) all.old }
-{
-    let front = &mut all[0..first.len()];
-    front.copy_from_slice(first);
 }
 
 pub type Memory<'a> = Split<Strip<'a>, Split<Strip<'a>, Panel>>;

@@ -10,7 +10,8 @@ use crate::trouble::Trouble;
 use bus::{Bus, Refusal, Right, Width};
 use parts::{RegionCheck, Setting};
 
-// The supervisor may use all that no region covers, and neither flat runs yet.
+// The supervisor may use all that no region covers, and neither flat runs yet. That the last two regions are off is a
+// premise here and below, and no invariant of a type: these functions serve any region check.
 pub fn start<B: Bus>(hub: &mut RegionCheck<B>) -> Result<(), Refusal>
     ensures value { result ≡ Ok tt }
     ensures regions { hub.new.table.regions ≡ both_wait hub.old.table.regions }
@@ -73,6 +74,7 @@ impl Turn {
 }
 
 // Three regions to a flat: its code, its RAM, its panel words.
+#[tactic(auto, using(crate::proofs::Accepted::code_accepted, crate::proofs::Accepted::ram_accepted, crate::proofs::Accepted::panel_accepted))]
 fn set_flat<B: Bus>(hub: &mut RegionCheck<B>, flat: Flat, turn: Turn) -> Result<(), Refusal>
     ensures value { result ≡ Ok tt }
     ensures regions { hub.new.table.regions ≡ flat_regions hub.old.table.regions flat turn }

@@ -37,12 +37,7 @@ pub fn print_panel<B: Bus>(rt: &HostRuntime, bus: &mut B) -> Result<(), Trouble>
 }
 
 // Prints four words, each after a gap, and ends the line.
-fn print_four<B: Bus>(
-    rt: &HostRuntime,
-    bus: &mut B,
-    address: u32,
-    gap: &str,
-) -> Result<(), Trouble>
+fn print_four<B: Bus>(rt: &HostRuntime, bus: &mut B, address: u32, gap: &str) -> Result<(), Trouble>
     ensures contents { B.Bus.bytes bus.new ≡ B.Bus.bytes bus.old }
     ensures settled { B.Bus.settings bus.new ≡ B.Bus.settings bus.old }
 {

@@ -1,26 +1,9 @@
 // What the command line asks for.
-ghost use Rattle.options.specs.Counts.{Ranged, AllRanged};
+ghost use Rattle.options.specs.Ranges.{AllRanged};
 
+use crate::asked::{Asked, Options};
 use crate::count::Count;
 use crate::mistake::Mistake;
-
-#[derive(Clone, Copy)]
-pub struct Options<'a> {
-    // the image's file; without one the image is the built-in one
-    pub image: Option<&'a str>,
-    pub steps: u32,
-    pub tick: u32,
-    pub turns: u32,
-    pub trace: bool,
-}
-
-#[derive(Clone, Copy)]
-pub enum Asked<'a> {
-    Help,
-    Run(Options<'a>),
-    // play a script of accesses, the built-in one where no file is named
-    Script(Option<&'a str>),
-}
 
 // What is asked for by the words after the program's name; by none, a run with the built-in image.
 pub fn parse(words: &[String]) -> Result<Asked<'_>, Mistake<'_>>
@@ -57,37 +40,28 @@ fn parse_run(words: &[String]) -> Result<Asked<'_>, Mistake<'_>>
         turns: 4,
         trace: false,
     };
-    let mut awaited = None;
-    for word in words {
-        let word = word.as_str();
-        match awaited {
-            Some(count) => {
-                set_count(&mut options, count, word)?;
-                awaited = None;
-            }
-            None => match word {
-                "--steps" => awaited = Some(Count::Steps),
-                "--tick" => awaited = Some(Count::Tick),
-                "--turns" => awaited = Some(Count::Turns),
-                "--trace" => options.trace = true,
-                "--help" => return Ok(Asked::Help),
-                _ => set_image(&mut options, word)?,
-            },
+    let mut words = words.iter();
+    while let Some(word) = words.next() {
+        match word.as_str() {
+            "--steps" => set_count(&mut options, Count::Steps, words.next())?,
+            "--tick" => set_count(&mut options, Count::Tick, words.next())?,
+            "--turns" => set_count(&mut options, Count::Turns, words.next())?,
+            "--trace" => options.trace = true,
+            "--help" => return Ok(Asked::Help),
+            word => set_image(&mut options, word)?,
         }
     }
-    match awaited {
-        Some(count) => Err(Mistake::Value(count, None)),
-        None => Ok(Asked::Run(options)),
-    }
+    Ok(Asked::Run(options))
 }
 
-fn set_count<'a>(options: &mut Options<'a>, count: Count, word: &'a str) -> Result<(), Mistake<'a>>
-    requires { Ranged options.old }
-    ensures { Ranged options.new }
-{
-    let Some(n) = count.value(word) else {
-        return Err(Mistake::Value(count, Some(word)));
-    };
+fn set_count<'a>(
+    options: &mut Options<'a>,
+    count: Count,
+    found: Option<&'a String>,
+) -> Result<(), Mistake<'a>> {
+    let found = found.map(|word| word.as_str());
+    let value = found.and_then(|word| count.value(word));
+    let n = value.ok_or(Mistake::Value(count, found))?;
     match count {
         Count::Steps => options.steps = n,
         Count::Tick => options.tick = n,
@@ -96,10 +70,7 @@ fn set_count<'a>(options: &mut Options<'a>, count: Count, word: &'a str) -> Resu
     Ok(())
 }
 
-fn set_image<'a>(options: &mut Options<'a>, word: &'a str) -> Result<(), Mistake<'a>>
-    requires { Ranged options.old }
-    ensures { Ranged options.new }
-{
+fn set_image<'a>(options: &mut Options<'a>, word: &'a str) -> Result<(), Mistake<'a>> {
     if word.starts_with('-') {
         return Err(Mistake::Option(word));
     }

@@ -2,7 +2,7 @@
 ghost use Rattle.std.specs.Prelude.{◌≡◌, ◌≤◌, IfSome};
 ghost use Rattle.options.specs.Counts.{most_of, option_of};
 
-#[derive(Clone, Copy)]
+#[derive(Clone, Copy, Debug, PartialEq, Eq)]
 pub enum Count {
     // steps in a turn
     Steps,
@@ -41,13 +41,7 @@ impl Count {
         if word.contains('+') {
             return None;
         }
-        match u32::from_str_radix(word, 10) {
-            Ok(n) => if 1 <= n && n <= self.most() {
-                Some(n)
-            } else {
-                None
-            },
-            Err(_) => None,
-        }
+        let number = u32::from_str_radix(word, 10).ok();
+        number.filter(|n| 1 <= *n && *n <= self.most())
     }
 }

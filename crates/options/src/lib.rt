@@ -1,10 +1,12 @@
 // The words of the hub's command line.
 #![tactic(auto)]
 
+mod asked;
 mod command;
 mod count;
 mod mistake;
 
-pub use command::{Asked, Options, parse};
+pub use asked::{Asked, Options};
+pub use command::parse;
 pub use count::Count;
 pub use mistake::Mistake;

@@ -11,7 +11,12 @@ pub use story::STORY;
 
 // Plays a script on a hub with this image, and reports.
 pub fn show(rt: &HostRuntime, image: &[u8], script: &str) -> Result<(), Trouble> {
-    show_with(rt, image, script, |hub| memory::print_words(rt, hub, PANEL_BASE, 4))
+    show_with(
+        rt,
+        image,
+        script,
+        |hub| memory::print_words(rt, hub, PANEL_BASE, 4),
+    )
 }
 
 // The same, with the panel printed by `print_panel`.

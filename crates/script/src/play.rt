@@ -37,7 +37,7 @@ fn outcome_of(answer: Answer) -> Outcome
     }
 }
 
-#[derive(Clone, Copy, Debug, PartialEq, Eq)]
+#[derive(Clone, Copy, Debug, PartialEq, Eq, Default)]
 pub struct Tally {
     pub allowed: u64,
     pub refused: u64,
@@ -46,17 +46,6 @@ pub struct Tally {
 }
 
 impl Tally {
-    fn new() -> Tally
-        ensures { result ≡ record { allowed = 0; refused = 0; handed = 0; bad = 0 } }
-    {
-        Tally {
-            allowed: 0,
-            refused: 0,
-            handed: 0,
-            bad: 0,
-        }
-    }
-
     fn count(&mut self, outcome: Outcome)
         ensures { self.new ≡ counted self.old outcome }
     {
@@ -83,7 +72,7 @@ pub fn play<B: Bus>(
     hub: &mut RegionCheck<B>,
     text: &str,
 ) -> Result<Tally, Trouble> {
-    let mut tally = Tally::new();
+    let mut tally = Tally::default();
     for (index, line) in text.lines().enumerate() {
         if !is_remark(line) {
             let outcome = play_line(rt, hub, index.saturating_add(1), line)?;

@@ -16,6 +16,7 @@ impl fmt::Display for Value {
     }
 }
 
+// A function, and no Display, of which no contract speaks.
 fn flat_words(flat: Flat) -> &'static str
     ensures { result.now ≡ flat_words flat }
 {

@@ -5,6 +5,7 @@ ghost use Rattle.terms.specs.Words.{exception_name, refusal_words};
 use bus::Refusal;
 use std::fmt;
 
+// Words that a contract states are functions: of what a Display writes no contract speaks.
 fn exception_name(number: u8) -> &'static str
     ensures { result.now ≡ exception_name number }
 {
@@ -30,7 +31,7 @@ fn refusal_words(refusal: Refusal) -> &'static str
     }
 }
 
-// An exception's number and name.
+// An exception's number and name: one of the ways to show what is a number elsewhere.
 #[derive(Clone, Copy)]
 pub struct ExceptionText(pub u8);
 

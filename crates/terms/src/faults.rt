@@ -5,6 +5,7 @@ ghost use Rattle.terms.specs.Words.{cause_words, kind_name};
 use bus::{Cause, Fault};
 use std::fmt;
 
+// Words that a contract states are functions: of what a Display writes no contract speaks.
 fn cause_words(cause: Cause) -> &'static str
     ensures { result.now ≡ cause_words cause }
 {
