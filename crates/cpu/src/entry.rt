@@ -66,8 +66,9 @@ fn return_value(r: &Registers) -> u32
 }
 
 // The exception is current and active, and its handler begins at the vector.
-fn enter(r: &mut Registers, number: u8, vector: u32)
-    ensures { r.new ≡ entered r.old number vector }
+fn enter(r: &mut Registers, number: u8, vector: u32) -> Answer
+    ensures leaves { r.new ≡ entered r.old number vector }
+    ensures answers { result ≡ Answer.Entered number }
 {
     let link = return_value(r);
     let frame = frame_address(r);
@@ -82,6 +83,7 @@ fn enter(r: &mut Registers, number: u8, vector: u32)
     r.exceptions.pending = word::without(r.exceptions.pending, u32::from(number));
     r.exceptions.active = word::with(r.exceptions.active, u32::from(number));
     state::interwork(r, vector);
+    Answer::Entered(number)
 }
 
 // NMI and HardFault have nothing in their place: a refused vector locks the core.
@@ -89,10 +91,7 @@ fn take_last<B: Bus>(r: &mut Registers, bus: &mut B, number: u8) -> Answer
     ensures { Makes B.Bus bus.old bus.new (take_last_of r.old number) (Ok (Stepped result), r.new) }
 {
     match bus.read(Width::Word, Right::Privileged, 4 * u32::from(number)) {
-        Ok(vector) => {
-            enter(r, number, vector);
-            Answer::Entered(number)
-        }
+        Ok(vector) => enter(r, number, vector),
         Err(fault) => {
             r.locked = true;
             Answer::Locked(fault)
@@ -108,10 +107,7 @@ fn take_other<B: Bus>(r: &mut Registers, bus: &mut B, number: u8, refused: Optio
         return take_last(r, bus, HARD_FAULT);
     }
     match bus.read(Width::Word, Right::Privileged, 4 * u32::from(number)) {
-        Ok(vector) => {
-            enter(r, number, vector);
-            Answer::Entered(number)
-        }
+        Ok(vector) => enter(r, number, vector),
         Err(_) => take_last(r, bus, HARD_FAULT),
     }
 }

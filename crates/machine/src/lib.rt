@@ -21,8 +21,9 @@ use std::io;
 pub type Played = Result<Vec<Response>, Fault>;
 
 // The turn begins in a world whose regions are the flat's and whose first word of RAM is its number, and comes to what
-// the calls come to there. Where the regions that no flat has are off, no unprivileged access to the neighbour's RAM or code passes while a flat
-// has its turn, nor after it.
+// the calls come to there. Where the regions that no flat has are off, no unprivileged access to the neighbour's RAM or
+// code passes while a flat has its turn, nor after it.
+// The handle, the core and the hub go as they are: a struct of the three loans would live for one call.
 pub fn play_turn<B: Bus>(
     rt: &HostRuntime,
     core: &mut Core,

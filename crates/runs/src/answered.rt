@@ -12,6 +12,7 @@ fn tally_of_one<T: Tally>(response: Response) -> T
 {
     match response {
         Ok(Completed::Stepped(answer)) => T::of(answer),
+        // two arms: one for both leaves open which of them it was, and the clause is not found
         Ok(Completed::Accepted) => T::empty(),
         Err(_) => T::empty(),
     }

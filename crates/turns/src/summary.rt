@@ -8,6 +8,7 @@ use terms::{ExceptionText, FaultAt, RefusalText};
 // Prints what a turn's responses tell, and how many there were.
 pub fn print_summary(rt: &HostRuntime, responses: &[Response]) -> io::Result<()> {
     let mut open = Vec::new(rt.alloc());
+    // counts the responses that are steps, so it is no index of the loop
     let mut step = 0u64;
     let mut locked = false;
     for response in responses {

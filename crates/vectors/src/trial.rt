@@ -1,6 +1,6 @@
 // One step of a case.
 use crate::case::{Case, Mistake, Row};
-use arch::{Answer, Control, Exceptions, Registers};
+use arch::{Answer, Registers};
 use bus::Refusal;
 use cpu::Core;
 use parts::{Limit, Split, Strip};
@@ -40,23 +40,11 @@ fn registers(row: &Row) -> Registers {
         general: row.general,
         lr: row.lr,
         msp: row.sp,
-        psp: 0,
         pc: row.pc,
         flags: flags(row.nzcv),
         thumb: true,
         primask: row.primask == 1,
-        control: Control {
-            npriv: false,
-            spsel: false,
-        },
-        current: 0,
-        exceptions: Exceptions {
-            pending: 0,
-            active: 0,
-            armed: 0,
-            ranks: [0; 48],
-        },
-        locked: false,
+        ..Registers::default()
     }
 }
 
