@@ -41,4 +41,4 @@ Performed answers calls before left = (fresh : Machine) × (started before.world
 -- a refused reset, and want of memory, leave the machine as it was
 abbrev pub Unmade : Failure → Machine → Machine → Type 0
 Unmade (ResetRefused f) before left = (started before.world ≡ Err f) × (left ≡ before)
-Unmade OutOfMemory before left = left ≡ before
+Unmade (OutOfMemory e) before left = left ≡ before

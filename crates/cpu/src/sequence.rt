@@ -14,17 +14,17 @@ use thiserror::Error;
 pub enum Failure {
     // there is no memory for the answers
     #[error("out of memory")]
-    OutOfMemory,
+    OutOfMemory(AllocError),
     // a read of the reset was refused
     #[error("the reset was refused")]
     ResetRefused(Fault),
 }
 
 impl From<AllocError> for Failure {
-    ghost from_gives = { λ _ failure. failure ≡ OutOfMemory };
+    ghost from_gives = { λ error failure. failure ≡ OutOfMemory error };
 
-    fn from(_error: AllocError) -> Failure {
-        Failure::OutOfMemory
+    fn from(error: AllocError) -> Failure {
+        Failure::OutOfMemory(error)
     }
 }
 

@@ -14,7 +14,6 @@ use bus::{Bus, Fault};
 use cpu::{Core, Failure};
 use memory::{Flat, Trouble};
 use parts::RegionCheck;
-use std::alloc::AllocError;
 use std::io;
 
 // What a turn came to: the answers to its calls, or why the core could not be reset and no call was made.
@@ -56,7 +55,7 @@ fn make<B: Bus>(
     match cpu::perform(rt.alloc(), core, bus, calls) {
         Ok(answers) => Ok(Ok(answers)),
         Err(Failure::ResetRefused(fault)) => Ok(Err(fault)),
-        Err(Failure::OutOfMemory) => Err(Trouble::OutOfMemory(AllocError)),
+        Err(Failure::OutOfMemory(error)) => Err(Trouble::OutOfMemory(error)),
     }
 }
 
