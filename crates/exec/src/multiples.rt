@@ -90,15 +90,17 @@ fn store_multiple<B: Bus>(r: &mut Registers, bus: &mut B, n: u8, list: u8) -> Re
     Ok(Flow::Ran)
 }
 
-// LDM; a refused word leaves what was loaded before it.
+// LDM, on a copy of the registers, so that a refused word leaves them.
 fn load_multiple<B: Bus>(r: &mut Registers, bus: &mut B, n: u8, list: u8) -> Result<Flow, Fault>
-    ensures { Makes B.Bus bus.old bus.new (multiple_of (Multiple.Ldm n list) r.old) (outcome result r.new) }
+    ensures { Executes B.Bus bus.old bus.new r.old r.new (multiple_of (Multiple.Ldm n list) r.old) outcome result }
 {
     let base = state::register(r, n);
     let right = state::right(r);
-    state::set_register(r, n, base.wrapping_add(span(list)));
-    load_registers(r, bus, right, list, base)?;
-    state::move_on(r, 2);
+    let mut loaded = *r;
+    state::set_register(&mut loaded, n, base.wrapping_add(span(list)));
+    load_registers(&mut loaded, bus, right, list, base)?;
+    state::move_on(&mut loaded, 2);
+    *r = loaded;
     Ok(Flow::Ran)
 }
 
@@ -151,39 +153,16 @@ fn pop_pc<B: Bus>(
     bx_write_pc(r, bus, target)
 }
 
-// POP; a refused word leaves what was loaded before it.
+// POP, on a copy as well.
 fn pop<B: Bus>(r: &mut Registers, bus: &mut B, list: u8, pc: bool) -> Result<Flow, Fault>
-    ensures { Makes B.Bus bus.old bus.new (multiple_of (Multiple.Pop list pc) r.old) (outcome result r.new) }
+    ensures { Executes B.Bus bus.old bus.new r.old r.new (multiple_of (Multiple.Pop list pc) r.old) outcome result }
 {
     let base = state::stack_pointer(r);
     let right = state::right(r);
-    load_registers(r, bus, right, list, base)?;
-    pop_pc(r, bus, right, pc, base.wrapping_add(span(list)))
-}
-
-// The registers change as the words come.
-fn carry_out<B: Bus>(r: &mut Registers, bus: &mut B, instruction: Multiple) -> Result<Flow, Fault>
-    ensures { Makes B.Bus bus.old bus.new (multiple_of instruction r.old) (outcome result r.new) }
-{
-    match instruction {
-        Multiple::Stm { n, list } => store_multiple(r, bus, n, list),
-        Multiple::Ldm { n, list } => load_multiple(r, bus, n, list),
-        Multiple::Push { list, lr } => push(r, bus, list, lr),
-        Multiple::Pop { list, pc } => pop(r, bus, list, pc),
-    }
-}
-
-// On a copy of the registers, so that a refused word leaves them.
-fn load_or_keep<B: Bus>(
-    r: &mut Registers,
-    bus: &mut B,
-    instruction: Multiple,
-) -> Result<Flow, Fault>
-    ensures { Executes B.Bus bus.old bus.new r.old r.new (multiple_of instruction r.old) outcome result }
-{
-    let mut loaded = *r;
-    let flow = carry_out(&mut loaded, bus, instruction)?;
-    *r = loaded;
+    let mut popped = *r;
+    load_registers(&mut popped, bus, right, list, base)?;
+    let flow = pop_pc(&mut popped, bus, right, pc, base.wrapping_add(span(list)))?;
+    *r = popped;
     Ok(flow)
 }
 
@@ -196,7 +175,8 @@ pub fn multiple<B: Bus>(
 {
     match instruction {
         Multiple::Stm { n, list } => store_multiple(r, bus, n, list),
+        Multiple::Ldm { n, list } => load_multiple(r, bus, n, list),
         Multiple::Push { list, lr } => push(r, bus, list, lr),
-        Multiple::Ldm { .. } | Multiple::Pop { .. } => load_or_keep(r, bus, instruction),
+        Multiple::Pop { list, pc } => pop(r, bus, list, pc),
     }
 }
