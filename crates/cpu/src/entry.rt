@@ -72,11 +72,7 @@ fn enter(r: &mut Registers, number: u8, vector: u32) -> Answer
 {
     let link = return_value(r);
     let frame = frame_address(r);
-    if state::on_process(r) {
-        r.psp = frame;
-    } else {
-        r.msp = frame;
-    }
+    state::set_stack_pointer(r, frame);
     r.lr = link;
     r.control.spsel = false;
     r.current = number;
