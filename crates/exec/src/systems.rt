@@ -13,7 +13,9 @@ use bus::{Cause, Fault};
 use thumb::instructions::{SpecialRegister, System};
 use word::Flags;
 
-// APSR as a word.
+const SVCALL: u8 = 11;
+
+// APSR as a word; a function, since `word`, which declares `Flags`, knows nothing of APSR.
 pub fn flags_word(flags: Flags) -> u32
     ensures value { result ≡ flags_word_of flags }
     ensures bound { result ≤ 0xf000_0000 }
@@ -86,10 +88,10 @@ fn call_supervisor(r: &mut Registers, size: u32) -> Result<Flow, Fault>
     ensures value { system_of (System.Svc 0) size r.old ≡ done (outcome result r.new) }
     ensures kept { KeptAt result r.old r.new }
 {
-    if state::priority(r, 11) >= state::execution_priority(r) {
+    if state::priority(r, SVCALL) >= state::execution_priority(r) {
         return Err(fault(Cause::SupervisorCallTooLow, r));
     }
-    pend(r, 11);
+    pend(r, SVCALL);
     state::move_on(r, size);
     Ok(Flow::Ran)
 }
