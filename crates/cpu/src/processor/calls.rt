@@ -10,6 +10,14 @@ use crate::step::step;
 use arch::{Answer, Call, Completed, Registers, Response};
 use bus::{Bus, Refusal};
 
+const NMI: u32 = 2;
+
+const SVCALL: u32 = 11;
+
+const PENDSV: u32 = 14;
+
+const SYSTICK: u32 = 15;
+
 // 16 to 47
 fn external(number: u32) -> bool
     ensures { result ≡ is_external number }
@@ -20,13 +28,13 @@ fn external(number: u32) -> bool
 fn raisable(number: u32) -> bool
     ensures { result ≡ is_raisable number }
 {
-    number == 2 || number == 14 || number == 15 || external(number)
+    number == NMI || number == PENDSV || number == SYSTICK || external(number)
 }
 
 fn rankable(number: u32) -> bool
     ensures { result ≡ is_rankable number }
 {
-    number == 11 || number == 14 || number == 15 || external(number)
+    number == SVCALL || number == PENDSV || number == SYSTICK || external(number)
 }
 
 impl Core {
