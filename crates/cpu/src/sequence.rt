@@ -20,6 +20,7 @@ pub enum Failure {
     ResetRefused(Fault),
 }
 
+// by hand, so that a contract says which failure
 impl From<AllocError> for Failure {
     ghost from_gives = { λ error failure. failure ≡ OutOfMemory error };
 
@@ -28,6 +29,7 @@ impl From<AllocError> for Failure {
     }
 }
 
+// by hand, so that a contract says which failure
 impl From<Fault> for Failure {
     ghost from_gives = { λ fault failure. failure ≡ ResetRefused fault };
 
@@ -48,6 +50,7 @@ pub fn perform<B: Bus>(
 {
     let mut answers = Vec::with_capacity(heap, calls.len())?;
     core.reset(bus)?;
+    // no `collect`: it would make room while calls are made
     for call in calls {
         let answer = core.call(bus, *call);
         // there is room: it was made before the reset

@@ -48,7 +48,7 @@ fn execute<B: Bus>(
     Ok(Flow::Ran)
 }
 
-// neither type is declared here, so this is no From
+// A function: `From` needs one of the two types to be declared here.
 fn cause(refusal: thumb::instructions::Refusal) -> Cause
     ensures { result ≡ cause_of refusal }
 {

@@ -4,6 +4,7 @@ ghost use Rattle.exec.specs.Flow.{answer_of};
 
 use arch::Answer;
 
+// no bool: two names say more
 #[derive(Clone, Copy, Debug, PartialEq, Eq)]
 pub enum Flow {
     Ran,

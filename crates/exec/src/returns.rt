@@ -10,7 +10,7 @@ use arch::{Frame, Registers};
 use bus::{Bus, Cause, Fault, Right, Width};
 use word::Flags;
 
-// A fault of the core itself.
+// A fault of the core itself; a function, since `bus`, which declares `Fault`, knows no registers.
 pub fn fault(cause: Cause, r: &Registers) -> Fault
     ensures { result ≡ core_fault cause r.now }
 {
