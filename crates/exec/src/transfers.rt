@@ -1,5 +1,6 @@
 // Loads and stores of one register.
-ghost use Rattle.std.specs.Prelude.{◌≡◌, ◌%◌, ◌^◌};
+ghost use Rattle.std.specs.Prelude.{◌≡◌, ◌*◌, ◌%◌, ◌^◌};
+ghost use Rattle.bus.specs.Access.{size};
 ghost use Rattle.word.specs.Extend.{sign_extend};
 ghost use Rattle.arch.specs.Transfers.{address_of, loading, storing, transfer as transfer_of};
 ghost use Rattle.exec.specs.Outcome.{Executes, outcome};
@@ -50,20 +51,19 @@ fn load<B: Bus>(
     Ok(Flow::Ran)
 }
 
-// A load of the low `bits` bits of what is read, with their sign. One load with a closure for the sign would promise less:
+// A load of what is read, with its sign. One load with a closure for the sign would promise less:
 // a closure's contract is a relation, and the definition takes a function.
 fn load_signed<B: Bus>(
     r: &mut Registers,
     bus: &mut B,
     width: Width,
-    bits: u32,
     t: u8,
     address: u32,
 ) -> Result<Flow, Fault>
-    ensures { Executes B.Bus bus.old bus.new r.old r.new (loading width (λ v. sign_extend bits 32 (v % 2 ^ bits)) r.old t address) outcome result }
+    ensures { Executes B.Bus bus.old bus.new r.old r.new (loading width (λ v. sign_extend (8 * size width) 32 (v % 2 ^ (8 * size width))) r.old t address) outcome result }
 {
     let value = bus.read(width, state::right(r), address)?;
-    state::set_register(r, t, word::sign_extend(value, bits));
+    state::set_register(r, t, word::sign_extend(value, 8 * width.size()));
     state::move_on(r, 2);
     Ok(Flow::Ran)
 }
@@ -81,10 +81,10 @@ pub fn transfer<B: Bus>(
         Transfer::Str => store(r, bus, Width::Word, t, address),
         Transfer::Strh => store(r, bus, Width::Half, t, address),
         Transfer::Strb => store(r, bus, Width::Byte, t, address),
-        Transfer::Ldrsb => load_signed(r, bus, Width::Byte, 8, t, address),
+        Transfer::Ldrsb => load_signed(r, bus, Width::Byte, t, address),
         Transfer::Ldr => load(r, bus, Width::Word, t, address),
         Transfer::Ldrh => load(r, bus, Width::Half, t, address),
         Transfer::Ldrb => load(r, bus, Width::Byte, t, address),
-        Transfer::Ldrsh => load_signed(r, bus, Width::Half, 16, t, address),
+        Transfer::Ldrsh => load_signed(r, bus, Width::Half, t, address),
     }
 }
