@@ -4,6 +4,7 @@ ghost use Rattle.arch.specs.Answers.{answer_number};
 
 use bus::{Fault, Refusal};
 
+// Exceptions and ranks are numbers here: one that is out of range is refused under its number.
 #[derive(Clone, Copy, Debug, PartialEq, Eq)]
 pub enum Call {
     Step,
@@ -34,6 +35,7 @@ impl Answer {
     pub fn number(self) -> u8
         ensures { result ≡ answer_number self }
     {
+        // variants with payloads have no number to cast
         match self {
             Answer::Ran => 0,
             Answer::Entered(_) => 1,

@@ -31,7 +31,7 @@ pub struct Registers {
     pub thumb: bool,
     pub primask: bool,
     pub control: Control,
-    // IPSR: the number of the current exception, 0 in Thread mode
+    // IPSR, a number as the register has it: that of the current exception, 0 in Thread mode
     pub current: u8,
     pub exceptions: Exceptions,
     pub locked: bool,

@@ -2,29 +2,21 @@
 ghost use Rattle.arch.specs.Laws.{Soundness, SpecialsHidden, FramesUnprivileged, IsolationStands};
 
 // Every call leaves a sound core sound; a fault and a refusal keep what they must.
-pub fn calls_are_sound() -> u8
+pub fn calls_are_sound()
     ensures { Soundness }
-{
-    0
-}
+{}
 
 // Twins, confinement and balance, over every list of calls on a fresh machine over every world.
-pub fn machines_are_isolated() -> u8
+pub fn machines_are_isolated()
     ensures { IsolationStands }
-{
-    0
-}
+{}
 
 // Unprivileged code learns nothing of the stack pointers and the current exception from MRS.
-pub fn special_registers_are_hidden() -> u8
+pub fn special_registers_are_hidden()
     ensures { SpecialsHidden }
-{
-    0
-}
+{}
 
 // A return to unprivileged Thread mode reads no more than unprivileged code may.
-pub fn frames_are_unprivileged() -> u8
+pub fn frames_are_unprivileged()
     ensures { FramesUnprivileged }
-{
-    0
-}
+{}

@@ -1,6 +1,11 @@
 // One access to a bus.
-ghost use Rattle.std.specs.Prelude.{◌≡◌};
+ghost use Rattle.std.specs.Prelude.{◌≡◌, None};
 ghost use Rattle.bus.specs.Access.{size, width_of, is_write, misaligned};
+ghost use Rattle.bus.specs.declared.fault.Cause.TheVariants.{Misaligned};
+ghost use Rattle.bus.specs.Fault.{raised};
+ghost use Rattle.bus.specs.Meaning.{answer, refused_if};
+
+use crate::fault::{Cause, Fault};
 
 #[derive(Clone, Copy, Debug, PartialEq, Eq)]
 pub enum Width {
@@ -36,19 +41,14 @@ impl Use {
     {
         match self {
             Use::Fetch => Width::Half,
-            Use::Read(width) => width,
-            Use::Write(width) => width,
+            Use::Read(width) | Use::Write(width) => width,
         }
     }
 
     pub fn is_write(self) -> bool
         ensures { result ≡ is_write self }
     {
-        match self {
-            Use::Fetch => false,
-            Use::Read(_) => false,
-            Use::Write(_) => true,
-        }
+        matches!(self, Use::Write(_))
     }
 }
 
@@ -83,5 +83,15 @@ impl Access {
             Width::Half => self.address % 2 != 0,
             Width::Word => self.address % 4 != 0,
         }
+    }
+
+    // Nothing, or the fault of a part of this kind where the access is misaligned. Every part asks this first.
+    pub fn aligned(self, kind: u8) -> Result<(), Fault>
+        ensures { result ≡ answer (refused_if (misaligned self) (raised Misaligned self kind) None) tt }
+    {
+        if self.is_misaligned() {
+            return Err(Fault::raise(Cause::Misaligned, self, kind));
+        }
+        Ok(())
     }
 }

@@ -33,7 +33,7 @@ pub struct Fault {
     pub cause: Cause,
     // the address of the refused access
     pub address: u32,
-    // the kind number of the part that refused
+    // the kind of the part that refused: a number and no enum, since whoever writes a part of their own chooses it
     pub kind: u8,
     // how many parts handed it up, at most 255
     pub hops: u8,

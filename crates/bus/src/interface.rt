@@ -29,7 +29,8 @@ pub trait Bus {
 
     ghost laws: { Laws kind bytes verdict };
 
-    // Makes one access. `value` is what a write stores, and of no account otherwise.
+    // Makes one access. `value` is what a write stores, and of no account otherwise. It stands beside the access, since a
+    // verdict is of an access, whatever it stores.
     fn access(&mut self, access: Access, value: u32) -> Result<u32, Fault>
         ensures value { result ≡ answer (verdict self.old access) (replied (bytes self.old) access) }
         ensures contents { bytes self.new ≡ after (verdict self.old access) (written (bytes self.old) access value) (bytes self.old) }

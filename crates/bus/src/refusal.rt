@@ -1,4 +1,5 @@
-// What a call of the host answers when it is turned away. It has then changed nothing.
+// What a call of the host answers when it is turned away. It has then changed nothing. Its words are in `terms`, where a
+// contract states them.
 ghost use Rattle.std.specs.Prelude.{◌≡◌};
 ghost use Rattle.bus.specs.Refusal.{refusal_number};
 

@@ -1,4 +1,5 @@
-// Little-endian numbers in a slice of bytes.
+// Little-endian numbers in a slice of bytes. Each width names its bytes one by one, as the definitions of load and store
+// take them.
 ghost use Rattle.std.specs.Prelude.{◌≡◌, ◌+◌, ◌≤◌, length};
 ghost use Rattle.bus.specs.Access.{size};
 ghost use Rattle.bus.specs.Memory.{load, store};

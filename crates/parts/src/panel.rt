@@ -62,9 +62,7 @@ impl Panel {
     fn admit(&self, access: Access) -> Result<usize, Fault>
         ensures { result ≡ answer (panel_verdict self.now access) (access.address % 64 / 4) }
     {
-        if access.is_misaligned() {
-            return Err(Fault::raise(Cause::Misaligned, access, PANEL_KIND));
-        }
+        access.aligned(PANEL_KIND)?;
         if access.address / PANEL_SIZE != self.base / PANEL_SIZE {
             return Err(Fault::raise(Cause::Unmapped, access, PANEL_KIND));
         }

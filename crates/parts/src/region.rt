@@ -27,11 +27,8 @@ impl Rights {
     {
         match self {
             Rights::Nothing => false,
-            Rights::Privileged => privileged(right),
-            Rights::PrivilegedWrites => true,
-            Rights::Everything => true,
-            Rights::PrivilegedReads => privileged(right),
-            Rights::Reads => true,
+            Rights::Privileged | Rights::PrivilegedReads => privileged(right),
+            Rights::PrivilegedWrites | Rights::Everything | Rights::Reads => true,
         }
     }
 
@@ -40,11 +37,9 @@ impl Rights {
     {
         match self {
             Rights::Nothing => false,
-            Rights::Privileged => privileged(right),
-            Rights::PrivilegedWrites => privileged(right),
+            Rights::Privileged | Rights::PrivilegedWrites => privileged(right),
             Rights::Everything => true,
-            Rights::PrivilegedReads => false,
-            Rights::Reads => false,
+            Rights::PrivilegedReads | Rights::Reads => false,
         }
     }
 }
@@ -74,7 +69,8 @@ pub fn privileged(right: Right) -> bool
     right == Right::Privileged
 }
 
-// A region as the host asks for it.
+// A region as the host asks for it, by numbers: what no region can have is refused under a number, and a narrower type
+// could not be asked for it.
 #[derive(Clone, Copy, Debug, PartialEq, Eq)]
 pub struct Setting {
     pub on: bool,
@@ -123,6 +119,7 @@ impl Region {
     pub fn covers(&self, address: u32) -> bool
         ensures { result ≡ region_covers self.now address }
     {
+        // tested again: a region is its numbers alone, and the definition is right for all of them
         if self.exponent < 8 || self.exponent > 32 {
             return false;
         }

@@ -109,9 +109,7 @@ impl<B: Bus> Bus for RegionCheck<B> {
     ghost laws = { check_laws B.Bus.laws };
 
     fn access(&mut self, access: Access, value: u32) -> Result<u32, Fault> {
-        if access.is_misaligned() {
-            return Err(Fault::raise(Cause::Misaligned, access, REGION_CHECK_KIND));
-        }
+        access.aligned(REGION_CHECK_KIND)?;
         if !self.lets_pass(access) {
             return Err(Fault::raise(Cause::Forbidden, access, REGION_CHECK_KIND));
         }

@@ -4,7 +4,7 @@ ghost use Rattle.bus.specs.declared.refusal.Refusal.TheVariants.{BadSetting};
 ghost use Rattle.parts.specs.Split.{OneSide, joined, split_verdict, split_laws};
 
 use crate::hop;
-use bus::{Access, Bus, Cause, Fault, Refusal};
+use bus::{Access, Bus, Fault, Refusal};
 
 const SPLIT_KIND: u8 = 3;
 
@@ -63,9 +63,7 @@ impl<L: Bus, U: Bus> Bus for Split<L, U> {
     ghost laws = { split_laws L.Bus.laws U.Bus.laws };
 
     fn access(&mut self, access: Access, value: u32) -> Result<u32, Fault> {
-        if access.is_misaligned() {
-            return Err(Fault::raise(Cause::Misaligned, access, SPLIT_KIND));
-        }
+        access.aligned(SPLIT_KIND)?;
         // An aligned access lies in one word, so its first address decides for the whole of it.
         if access.address / 4 < self.limit / 4 {
             hop::hand_up(self.lower.access(access, value))

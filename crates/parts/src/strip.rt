@@ -56,9 +56,7 @@ impl Strip<'_> {
     fn admit(&self, access: Access) -> Result<usize, Fault>
         ensures { result ≡ answer (strip_verdict self.now access) (access.address - self.now.base) }
     {
-        if access.is_misaligned() {
-            return Err(Fault::raise(Cause::Misaligned, access, STRIP_KIND));
-        }
+        access.aligned(STRIP_KIND)?;
         if !self.holds(access) {
             return Err(Fault::raise(Cause::Unmapped, access, STRIP_KIND));
         }

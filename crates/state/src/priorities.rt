@@ -23,6 +23,7 @@ pub fn priority(r: &Registers, n: u8) -> i32
     }
 }
 
+// Here and in `best_pending` a loop and no fold: the definitions recur as it does.
 fn least_active(r: &Registers) -> i32
     ensures { result ≡ least_active 48 r.now }
 {

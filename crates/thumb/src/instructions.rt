@@ -167,7 +167,7 @@ pub enum System {
     UdfWide { imm: u32 },
     /// CPSID, or else CPSIE.
     Cps { disable: bool },
-    /// 0 NOP, 1 YIELD, 2 WFE, 3 WFI, 4 SEV, and unallocated hints up to 15.
+    /// 0 NOP, 1 YIELD, 2 WFE, 3 WFI, 4 SEV, and unallocated hints up to 15, which have no other names.
     Hint { number: u32 },
     Dsb { option: u32 },
     Dmb { option: u32 },

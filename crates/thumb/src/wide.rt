@@ -47,6 +47,8 @@ fn control(x: u32) -> Result<Instruction, Refusal>
     }
 }
 
+// MSR and MRS each test the fields of their own diagram; what they share is the conversion.
+
 /// MSR.
 fn move_to_special(x: u32) -> Result<Instruction, Refusal>
     requires { IsControl x 21 1948 }

@@ -3,8 +3,6 @@
 
 ghost use Rattle.worked.specs.Examples.{Examples};
 
-pub fn examples_hold() -> u8
+pub fn examples_hold()
     ensures { Examples }
-{
-    0
-}
+{}
