@@ -42,12 +42,10 @@ fn frame_words(r: &Registers) -> [u32; 8]
 fn stack_words<B: Bus>(bus: &mut B, right: Right, words: [u32; 8], x: u32) -> Option<Fault>
     ensures { Makes B.Bus bus.old bus.new (try_words right None words x) result }
 {
-    // addresses wrap, so no range gives them
-    let mut at = x;
     let mut first = None;
-    for word in &words {
+    for (i, word) in words.iter().enumerate() {
+        let at = x.wrapping_add(4 * i as u32);
         first = first.or(bus.write(Width::Word, right, at, *word).err());
-        at = at.wrapping_add(4);
     }
     first
 }
