@@ -36,7 +36,7 @@ fn store_next<B: Bus>(r: &Registers, bus: &mut B, list: u8, i: u8, x: u32) -> Re
 fn store_registers<B: Bus>(r: &Registers, bus: &mut B, list: u8, x: u32) -> Result<u32, Fault>
     ensures { Makes B.Bus bus.old bus.new (store_registers r.now (registers_of list) x) result }
 {
-    // moves only past a register of the list
+    // all eight and no filter: a register that is not in the list leaves the address, as the definition has it
     let mut at = x;
     for i in 0..8u8 {
         at = store_next(r, bus, list, i, at)?;
@@ -73,6 +73,7 @@ fn load_registers<B: Bus>(
 ) -> Result<(), Fault>
     ensures { Makes B.Bus bus.old bus.new (load_registers right r.old (registers_of list) x) (returned_to result r.new) }
 {
+    // all eight and no filter: a register that is not in the list leaves the address, as the definition has it
     let mut at = x;
     for i in 0..8u8 {
         at = load_next(r, bus, right, list, i, at)?;
