@@ -22,7 +22,8 @@ pub type Played = Result<Vec<Response>, Fault>;
 // The turn begins in a world whose regions are the flat's and whose first word of RAM is its number, and comes to what
 // the calls come to there. Where the regions that no flat has are off, no unprivileged access to the neighbour's RAM or
 // code passes while a flat has its turn, nor after it.
-// The handle, the core and the hub go as they are: a struct of the three loans would live for one call.
+//
+// A struct of the three loans would live for one call, so the handle, the core and the hub go as they are.
 pub fn play_turn<B: Bus>(
     rt: &HostRuntime,
     core: &mut Core,
@@ -53,7 +54,10 @@ fn make<B: Bus>(
         return make_traced(rt, core, bus, calls);
     }
     match cpu::perform(rt.alloc(), core, bus, calls) {
-        Ok(answers) => Ok(Ok(answers)),
+        Ok(answers) => {
+            let played: Played = Ok(answers);
+            Ok(played)
+        }
         Err(Failure::ResetRefused(fault)) => Ok(Err(fault)),
         Err(Failure::OutOfMemory(error)) => Err(Trouble::OutOfMemory(error)),
     }
@@ -72,12 +76,14 @@ fn make_traced<B: Bus>(
     if let Err(fault) = core.reset(bus) {
         return Ok(Err(fault));
     }
+    // counts the responses that are steps, so it is no index of the loop
     let mut steps = 0u64;
     for call in calls {
         let answer = call_traced(rt, core, bus, &mut steps, *call)?;
         answers.push(answer)?;
     }
-    Ok(Ok(answers))
+    let played: Played = Ok(answers);
+    Ok(played)
 }
 
 // One call, with its line. `steps` counts the steps that were answered.

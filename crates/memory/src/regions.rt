@@ -19,6 +19,7 @@ pub fn start<B: Bus>(hub: &mut RegionCheck<B>) -> Result<(), Refusal>
     ensures rest { (hub.new.below ≡ hub.old.below) × (hub.new.background ≡ true) }
 {
     hub.set_background(true);
+    // never refused, by `value`; a `Result`, as `set_region` answers one
     set_flat(hub, Flat::One, Turn::Waits)?;
     set_flat(hub, Flat::Two, Turn::Waits)
 }
@@ -47,14 +48,14 @@ pub fn prepare<B: Bus>(hub: &mut RegionCheck<B>, flat: Flat) -> Result<(), Troub
     Ok(())
 }
 
-// The codes of the rights that the regions are set to.
+// Codes, as a setting takes them: one that means nothing is refused there.
 const SUPERVISOR_ONLY: u8 = 1;
 
 const ALL_WRITE: u8 = 3;
 
 const ALL_READ: u8 = 6;
 
-// Whether a flat's schedule is the one that runs.
+// Whether a flat's schedule is the one that runs: the names say more than a bool.
 #[derive(Clone, Copy, Debug, PartialEq, Eq)]
 enum Turn {
     Runs,
@@ -118,14 +119,12 @@ fn panel_region(flat: Flat, turn: Turn) -> Setting
     ensures { result ≡ panel_region flat turn }
 {
     Setting {
-        on: true,
         base: PANEL_BASE,
         exponent: 8,
-        code: turn.rights(ALL_WRITE),
-        no_fetch: true,
         sub_marks: match flat {
             Flat::One => 0b1111_1110,
             Flat::Two => 0b1111_1101,
         },
+        ..ram_region(flat, turn)
     }
 }

@@ -1,5 +1,5 @@
 // Words of the memory, as the host sees and shows them.
-ghost use Rattle.std.specs.Prelude.{◌≡◌};
+ghost use Rattle.bus.specs.Made.{Leaves};
 
 use crate::pile::PANEL_BASE;
 use crate::trouble::Trouble;
@@ -12,8 +12,7 @@ pub fn print_words<B: Bus>(
     address: u32,
     lines: u32,
 ) -> Result<(), Trouble>
-    ensures contents { B.Bus.bytes bus.new ≡ B.Bus.bytes bus.old }
-    ensures settled { B.Bus.settings bus.new ≡ B.Bus.settings bus.old }
+    ensures leaves { Leaves B.Bus bus.old bus.new }
 {
     for line in 0..lines {
         let first = address.wrapping_add(line.wrapping_mul(16));
@@ -25,8 +24,7 @@ pub fn print_words<B: Bus>(
 
 // Prints the panel's sixteen words, four to a line, with the number of the first.
 pub fn print_panel<B: Bus>(rt: &HostRuntime, bus: &mut B) -> Result<(), Trouble>
-    ensures contents { B.Bus.bytes bus.new ≡ B.Bus.bytes bus.old }
-    ensures settled { B.Bus.settings bus.new ≡ B.Bus.settings bus.old }
+    ensures leaves { Leaves B.Bus bus.old bus.new }
 {
     for line in 0..4u32 {
         let first = 4 * line;
@@ -38,8 +36,7 @@ pub fn print_panel<B: Bus>(rt: &HostRuntime, bus: &mut B) -> Result<(), Trouble>
 
 // Prints four words, each after a gap, and ends the line.
 fn print_four<B: Bus>(rt: &HostRuntime, bus: &mut B, address: u32, gap: &str) -> Result<(), Trouble>
-    ensures contents { B.Bus.bytes bus.new ≡ B.Bus.bytes bus.old }
-    ensures settled { B.Bus.settings bus.new ≡ B.Bus.settings bus.old }
+    ensures leaves { Leaves B.Bus bus.old bus.new }
 {
     for offset in [0, 4, 8, 12] {
         let word = bus.read(Width::Word, Right::Privileged, address.wrapping_add(offset))?;

@@ -40,9 +40,9 @@ fn parse_run(words: &[String]) -> Result<Asked<'_>, Mistake<'_>>
         turns: 4,
         trace: false,
     };
-    let mut words = words.iter();
+    let mut words = words.iter().map(|word| word.as_str());
     while let Some(word) = words.next() {
-        match word.as_str() {
+        match word {
             "--steps" => set_count(&mut options, Count::Steps, words.next())?,
             "--tick" => set_count(&mut options, Count::Tick, words.next())?,
             "--turns" => set_count(&mut options, Count::Turns, words.next())?,
@@ -57,9 +57,8 @@ fn parse_run(words: &[String]) -> Result<Asked<'_>, Mistake<'_>>
 fn set_count<'a>(
     options: &mut Options<'a>,
     count: Count,
-    found: Option<&'a String>,
+    found: Option<&'a str>,
 ) -> Result<(), Mistake<'a>> {
-    let found = found.map(|word| word.as_str());
     let value = found.and_then(|word| count.value(word));
     let n = value.ok_or(Mistake::Value(count, found))?;
     match count {

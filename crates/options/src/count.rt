@@ -12,6 +12,7 @@ pub enum Count {
 }
 
 impl Count {
+    // a table: its contract says the words
     pub fn option(self) -> &'static str
         ensures { result.now ≡ option_of self }
     {
@@ -38,7 +39,7 @@ impl Count {
         ensures { IfSome result (λ n. (1 ≤ n) × (n ≤ most_of self)) }
     {
         // from_str_radix would take a sign
-        if word.contains('+') {
+        if word.starts_with('+') {
             return None;
         }
         let number = u32::from_str_radix(word, 10).ok();

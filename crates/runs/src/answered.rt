@@ -24,6 +24,7 @@ pub fn tally_of<T: Tally>(responses: &[Response]) -> T
     ensures says { T.Tally.Says result (answers_in responses.now) }
 {
     let mut sum = T::empty();
+    // a loop of one line: a fold would need the same lemma
     for response in responses {
         sum = sum.join(tally_of_one(*response));
     }

@@ -34,6 +34,7 @@ pub fn sum_of_tenths(panel: &Panel) -> i64
     ensures { result ≡ sum_of_first summed panel.now.words }
 {
     let mut sum = 0;
+    // a loop: the sum of an iterator would owe at each step that no sum so far leaves the range
     for word in panel.words() {
         sum += i64::from(tenths_of(*word));
     }

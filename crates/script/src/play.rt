@@ -19,7 +19,7 @@ pub struct Value {
 // What an access came to: a write that passes has no value.
 pub type Answer = Result<Option<Value>, Fault>;
 
-// What a line came to.
+// What a line came to: four counts, where a bool would name two.
 #[derive(Clone, Copy, Debug, PartialEq, Eq)]
 pub enum Outcome {
     Allowed,

@@ -1,4 +1,4 @@
-// What is printed: each line's question and answer, the counts, the bytes that changed, the panel.
+// What is printed: the memory's map, each line's question and answer, the counts, the bytes that changed.
 ghost use Rattle.std.specs.Prelude.{◌≡◌, ℕ, ◌<◌, ◌≤◌, length, ◌≢◌, slice_index};
 ghost use Rattle.script.specs.Words.{flat_words};
 
@@ -88,6 +88,7 @@ const TO_A_LINE: usize = 16;
 pub fn print_changes(rt: &HostRuntime, base: u32, before: &[u8], after: &[u8]) -> io::Result<()> {
     let (mut before, mut after) = (before, after);
     let mut address = u64::from(base);
+    // no iterator: a run of changes ends at the first byte that is the same, and after sixteen
     while !before.is_empty() && !after.is_empty() {
         let changed = leading_changes(before, after).min(TO_A_LINE);
         // a byte that did not change is passed over

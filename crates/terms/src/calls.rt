@@ -31,7 +31,7 @@ fn refusal_words(refusal: Refusal) -> &'static str
     }
 }
 
-// An exception's number and name: one of the ways to show what is a number elsewhere.
+// An exception's number and name.
 #[derive(Clone, Copy)]
 pub struct ExceptionText(pub u8);
 

@@ -57,6 +57,7 @@ fn print_response(rt: &HostRuntime, current: u8, response: Response) -> io::Resu
     }
 }
 
+// A part of a line that goes on with the registers, where a summary's is a line with the step.
 fn print_answer(rt: &HostRuntime, current: u8, answer: Answer) -> io::Result<()> {
     match answer {
         Answer::Ran => Ok(()),

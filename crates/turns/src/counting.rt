@@ -30,6 +30,7 @@ pub fn count(responses: &[Response]) -> Counts
     ensures { result ≡ counted_all none responses.now }
 {
     let mut counts = Counts::default();
+    // a loop of one line: a fold would need the same lemma
     for response in responses {
         counts.note(*response);
     }

@@ -46,10 +46,11 @@ fn tick_due(made: u32, tick: u32) -> bool
     tick != 0 && made % tick == 0
 }
 
-// The step that makes it `made` of them, and what is due after it. Four rows say more than calls that are put together.
+// The step that makes it `made` of them, and what is due after it.
 fn step_with_due(made: u32, tick: u32, middle: u32) -> &'static [Call]
     ensures { result.now ≡ step_with_due made tick middle }
 {
+    // a table: a row says what is due
     match (tick_due(made, tick), made == middle) {
         (false, false) => &[Call::Step],
         (true, false) => &[Call::Step, Call::Raise(SYSTICK)],

@@ -29,7 +29,7 @@ pub fn print_summary(rt: &HostRuntime, responses: &[Response]) -> io::Result<()>
     print_counts(rt, responses)
 }
 
-// `open` has the exceptions that were entered and not returned from, the last at the end.
+// A line with the step, where a trace's tells what the registers became. `open` has the exceptions that were entered and not returned from, the last at the end.
 fn print_answer(rt: &HostRuntime, open: &mut Vec<u8>, step: u64, answer: Answer) -> io::Result<()> {
     match answer {
         Answer::Ran => Ok(()),

@@ -7,7 +7,8 @@ use crate::case::Mistake;
 pub fn number(text: &str) -> Result<u32, Mistake>
     ensures { ParsesUpTo 0xffff_ffff 16 text.now result }
 {
-    if let [b'+', ..] = text.as_bytes() {
+    // from_str_radix would take a sign
+    if text.starts_with('+') {
         return Err(Mistake::NotANumber);
     }
     u32::from_str_radix(text, 16).map_err(|_| Mistake::NotANumber)

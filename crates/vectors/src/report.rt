@@ -35,6 +35,7 @@ pub struct Report {
 }
 
 impl Report {
+    // counted here, where the messages need it, and not handed through the functions that hold
     pub fn begin_line(&mut self) {
         self.line = self.line.saturating_add(1);
     }

@@ -21,6 +21,7 @@ pub struct Outcome {
     pub found: Row,
 }
 
+// Four bits as flags, and back: apart from exec's, so that a wrong bit there would differ here.
 fn flags(nzcv: u32) -> Flags {
     Flags {
         n: word::bit(nzcv, 3),

@@ -1,5 +1,5 @@
-use Rattle.std.proofs.Common.{◌≡◌}
+use Rattle.bus.specs.Made.{Leaves}
 use Rattle.memory.proofs.view.print_panel.Given as goal
 
 abbrev pub invariant-loop-line : goal.invariant-loop-line
-invariant-loop-line g l = (g.B.Bus.bytes l.bus ≡ g.B.Bus.bytes l.initial.bus) × (g.B.Bus.settings l.bus ≡ g.B.Bus.settings l.initial.bus)
+invariant-loop-line g l = Leaves g.B.Bus l.initial.bus l.bus
