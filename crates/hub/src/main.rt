@@ -10,6 +10,7 @@ use parts::Strip;
 use std::process::ExitCode;
 use std::{env, fs};
 
+// Each program's own, with its name and its errors.
 fn main(rt: HostRuntime) -> ExitCode {
     match run(&rt) {
         Ok(()) => ExitCode::SUCCESS,

@@ -24,6 +24,7 @@ hub --help                 print this
     --tick N     steps from one SysTick to the next: 1 to 100000, 150 unless given
     --trace      print every step";
 
+// Each program's own, with its name and its errors.
 fn main(rt: HostRuntime) -> ExitCode {
     match answer(&rt) {
         Ok(()) => ExitCode::SUCCESS,

@@ -27,10 +27,9 @@ pub fn run(rt: &HostRuntime, image: &[u8], options: Options<'_>) -> Result<(), T
     let mut core = Core::new();
     let mut tallies = <Tallies as Tally>::empty();
     print_heading(rt, image.len(), options)?;
-    for turn in 0..options.turns {
-        let number = turn + 1;
-        let flat = turns::flat_of(number);
-        print_turn(rt, number, flat)?;
+    for turn in 1..=options.turns {
+        let flat = turns::flat_of(turn);
+        print_turn(rt, turn, flat)?;
         let played = take_turn(rt, &mut core, &mut hub, flat, &calls, options.trace)?;
         tallies = tallies.join(print_played(rt, &played)?);
         print_view(rt, &mut hub, flat)?;

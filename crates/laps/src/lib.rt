@@ -21,19 +21,16 @@ mod tests {
         Ok(core)
     }
 
-    fn counts(ran: u64, entered: u64, returned: u64, faulted: u64, locked: u64) -> Counts {
-        Counts {
-            ran,
-            entered,
-            returned,
-            faulted,
-            locked,
-        }
+    fn outcome<T>(steps: u32, tally: T) -> Outcome<T> {
+        Outcome { steps, tally }
     }
 
-    // A run of so many steps.
-    fn of<T>(steps: u32, tally: T) -> Outcome<T> {
-        Outcome { steps, tally }
+    // So many steps ran, and nothing else came of any.
+    fn ran(steps: u64) -> Counts {
+        Counts {
+            ran: steps,
+            ..Counts::default()
+        }
     }
 
     #[test]
@@ -43,13 +40,13 @@ mod tests {
         // b .
         let mut core = booted(&mut bus, 0xe7fe)?;
         let shortest = runs::run(&mut core, &mut bus, 0)?;
-        assert_eq!(rt; shortest, of(0, counts(0, 0, 0, 0, 0)));
+        assert_eq!(rt; shortest, outcome(0, ran(0)));
         let longest = runs::run(&mut core, &mut bus, 65535)?;
-        assert_eq!(rt; longest, of(65535, counts(65535, 0, 0, 0, 0)));
+        assert_eq!(rt; longest, outcome(65535, ran(65535)));
         let beyond: Result<Outcome<Counts>, Refusal> = runs::run(&mut core, &mut bus, 65536);
         assert_eq!(rt; beyond.err().map(Refusal::number), Some(12));
         let in_parts = runs::run_twice(&mut core, &mut bus, 65535, 1)?;
-        assert_eq!(rt; in_parts, of(65536, counts(65536, 0, 0, 0, 0)));
+        assert_eq!(rt; in_parts, outcome(65536, ran(65536)));
         Ok(())
     }
 
@@ -64,9 +61,9 @@ mod tests {
             least: 0,
             greatest: 8,
         };
-        assert_eq!(rt; locking, of(3, Some(span)));
+        assert_eq!(rt; locking, outcome(3, Some(span)));
         let afterwards = runs::run(&mut core, &mut bus, 5)?;
-        assert_eq!(rt; afterwards, of(0, counts(0, 0, 0, 0, 0)));
+        assert_eq!(rt; afterwards, outcome(0, ran(0)));
         Ok(())
     }
 
@@ -77,11 +74,15 @@ mod tests {
             ..Counts::of(Answer::Ran)
         };
         let full = almost.join(Counts::of(Answer::Ran));
-        assert_eq!(rt; full, counts(u64::MAX, 0, 0, 0, 0));
+        assert_eq!(rt; full, ran(u64::MAX));
         let still = full
             .join(Counts::of(Answer::Ran))
             .join(Counts::of(Answer::Returned));
-        assert_eq!(rt; still, counts(u64::MAX, 0, 1, 0, 0));
+        let expected = Counts {
+            returned: 1,
+            ..ran(u64::MAX)
+        };
+        assert_eq!(rt; still, expected);
     }
 
     // Hundredths and what they read as.

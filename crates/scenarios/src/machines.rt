@@ -58,7 +58,8 @@ pub fn pile<'a>(bytes: &'a mut [u8]) -> Result<Memory<'a>, Refusal> {
     Ok(pile)
 }
 
-// What a call should answer; a fault and a refusal by their numbers.
+// What a call should answer. Flat, and not a `Response`: a row names a fault by its cause's number alone, and a refusal
+// by its own.
 #[derive(Clone, Copy, Debug, PartialEq, Eq)]
 pub enum Expected {
     Ran,

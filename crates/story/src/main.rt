@@ -4,6 +4,7 @@
 use image::IMAGE;
 use std::process::ExitCode;
 
+// Each program's own, with its name and its errors.
 fn main(rt: HostRuntime) -> ExitCode {
     match script::show(&rt, &IMAGE, script::STORY) {
         Ok(()) => ExitCode::SUCCESS,

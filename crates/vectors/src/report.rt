@@ -24,6 +24,7 @@ impl Count {
     }
 }
 
+// Counts alone: what prints takes the handle beside it, since a count needs none.
 #[derive(Default, Drop)]
 pub struct Report {
     // the line that is played
