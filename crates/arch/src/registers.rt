@@ -1,4 +1,4 @@
-// Everything that a core holds.
+// Everything that a core holds, in fixed memory: a core needs no heap.
 use word::Flags;
 
 #[derive(Clone, Copy, Debug, Default, PartialEq, Eq)]

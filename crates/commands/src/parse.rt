@@ -125,6 +125,7 @@ fn parse_request<'a>(
 }
 
 // Flats and widths are other crates' types, and what is refused is shown: so these are functions, and no FromStr.
+// Functions, since `Flat` and `Width` are declared in other crates.
 fn parse_flat(found: Option<&str>) -> Result<Flat, Mistake<'_>> {
     match found {
         Some("1") => Ok(Flat::One),

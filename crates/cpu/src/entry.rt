@@ -93,7 +93,8 @@ fn take_last<B: Bus>(r: &mut Registers, bus: &mut B, number: u8) -> Answer
     }
 }
 
-// Another exception gives way to HardFault where its vector or a word of its frame is refused.
+// Another exception gives way to HardFault where its vector or a word of its frame is refused: what a refusal leads to is
+// what tells this from `take_last`.
 fn take_other<B: Bus>(r: &mut Registers, bus: &mut B, number: u8, refused: Option<Fault>) -> Answer
     ensures { Makes B.Bus bus.old bus.new (take_other_of r.old number refused) (Ok (Stepped result), r.new) }
 {

@@ -21,7 +21,8 @@ fn span(list: u8) -> u32
     4 * list.count_ones()
 }
 
-// Register `i` to the word at `x`, if it is in the list; the address after it.
+// Register `i` to the word at `x`, if it is in the list; the address after it. A store borrows the registers and a load
+// changes them, so the two stand apart.
 fn store_next<B: Bus>(r: &Registers, bus: &mut B, list: u8, i: u8, x: u32) -> Result<u32, Fault>
     ensures { Makes B.Bus bus.old bus.new (store_next r.now list i x) result }
 {

@@ -83,7 +83,7 @@ pub fn pend(r: &mut Registers, number: u8)
     r.exceptions.pending = word::with(r.exceptions.pending, u32::from(number));
 }
 
-// SVCall, which has to be able to preempt.
+// SVCall, which has to be able to preempt. Here is no access, and so no program for one fact to speak of.
 fn call_supervisor(r: &mut Registers, size: u32) -> Result<Flow, Fault>
     ensures value { system_of (System.Svc 0) size r.old ≡ done (outcome result r.new) }
     ensures kept { KeptAt result r.old r.new }

@@ -28,8 +28,7 @@ impl Count {
         ensures { result ≡ most_of self }
     {
         match self {
-            Count::Steps => 100_000,
-            Count::Tick => 100_000,
+            Count::Steps | Count::Tick => 100_000,
             Count::Turns => 1000,
         }
     }

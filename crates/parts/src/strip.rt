@@ -52,7 +52,8 @@ impl Strip<'_> {
         self.base <= access.address && end <= u64::from(self.base) + self.bytes.len() as u64
     }
 
-    // Where in the slice an allowed access begins, or the fault of a refused one.
+    // Where in the slice an allowed access begins, or the fault of a refused one. The tests after the alignment are a
+    // strip's own.
     fn admit(&self, access: Access) -> Result<usize, Fault>
         ensures { result ≡ answer (strip_verdict self.now access) (access.address - self.now.base) }
     {

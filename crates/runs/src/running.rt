@@ -13,7 +13,8 @@ use cpu::Core;
 // The longest run.
 const LONGEST: u32 = 65535;
 
-// At most `limit` steps; a locked core makes none, so the run ends after one that locks.
+// At most `limit` steps; a locked core makes none, so the run ends after one that locks. A run is no single program of
+// accesses, so what it leaves and `settled` stand apart.
 fn make_steps<B: Bus, T: Tally>(core: &mut Core, bus: &mut B, limit: u32) -> Outcome<T>
     ensures value { result ≡ outcome_of T.Tally (answers limit (machine_on B.Bus core.old bus.old)) }
     ensures leaves { machine_on B.Bus core.new bus.new ≡ left limit (machine_on B.Bus core.old bus.old) }

@@ -73,6 +73,7 @@ pub fn play<B: Bus>(
     text: &str,
 ) -> Result<Tally, Trouble> {
     let mut tally = Tally::default();
+    // lines count from 1
     for (index, line) in text.lines().enumerate() {
         if !is_remark(line) {
             let outcome = play_line(rt, hub, index.saturating_add(1), line)?;

@@ -31,7 +31,7 @@ fn refusal_words(refusal: Refusal) -> &'static str
     }
 }
 
-// An exception's number and name.
+// An exception's number and name. Wrappers here, since the types are numbers or bus's, and some are shown in two ways.
 #[derive(Clone, Copy)]
 pub struct ExceptionText(pub u8);
 

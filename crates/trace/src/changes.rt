@@ -2,6 +2,7 @@
 use arch::Registers;
 use std::io;
 
+// In lower case, as in the disassembly beside them.
 const GENERAL: [&str; 13] = [
     "r0", "r1", "r2", "r3", "r4", "r5", "r6", "r7", "r8", "r9", "r10", "r11", "r12",
 ];
