@@ -8,7 +8,7 @@ use std::fmt;
 use std::str::SplitWhitespace;
 use thiserror::Error;
 
-// One access, with what a write stores.
+// One access, with what a write stores: nothing looks at it otherwise.
 #[derive(Clone, Copy, Debug, PartialEq, Eq)]
 pub struct Request {
     pub access: Access,
@@ -124,8 +124,7 @@ fn parse_request<'a>(
     })
 }
 
-// Flats and widths are other crates' types, and what is refused is shown: so these are functions, and no FromStr.
-// Functions, since `Flat` and `Width` are declared in other crates.
+// Functions and no `FromStr`: `Flat` and `Width` are declared in other crates.
 fn parse_flat(found: Option<&str>) -> Result<Flat, Mistake<'_>> {
     match found {
         Some("1") => Ok(Flat::One),

@@ -37,7 +37,7 @@ fn store_next<B: Bus>(r: &Registers, bus: &mut B, list: u8, i: u8, x: u32) -> Re
 fn store_registers<B: Bus>(r: &Registers, bus: &mut B, list: u8, x: u32) -> Result<u32, Fault>
     ensures { Makes B.Bus bus.old bus.new (store_registers r.now (registers_of list) x) result }
 {
-    // all eight and no filter: a register that is not in the list leaves the address, as the definition has it
+    // all eight and no filter: what becomes of one that is not in the list stands in the call
     let mut at = x;
     for i in 0..8u8 {
         at = store_next(r, bus, list, i, at)?;
@@ -74,7 +74,7 @@ fn load_registers<B: Bus>(
 ) -> Result<(), Fault>
     ensures { Makes B.Bus bus.old bus.new (load_registers right r.old (registers_of list) x) (returned_to result r.new) }
 {
-    // all eight and no filter: a register that is not in the list leaves the address, as the definition has it
+    // all eight and no filter: what becomes of one that is not in the list stands in the call
     let mut at = x;
     for i in 0..8u8 {
         at = load_next(r, bus, right, list, i, at)?;

@@ -5,7 +5,7 @@ mod error;
 
 use crate::error::HubError;
 use bus::{Bus, Right, Width};
-use memory::{FLASH_BASE, FLASH_SIZE, Trouble};
+use memory::{ERASED, FLASH_BASE, FLASH_SIZE, Trouble};
 use parts::Strip;
 use std::process::ExitCode;
 use std::{env, fs};
@@ -43,9 +43,6 @@ fn show(rt: &HostRuntime, script: &str) -> Result<(), HubError> {
     script::show_with(rt, &image, script, |hub| memory::print_panel(rt, hub))?;
     Ok(())
 }
-
-// What flash holds where nothing was written.
-const ERASED: u8 = 0xff;
 
 // The words of the image that are not erased, with their addresses.
 const WORDS: [(u32, u32); 7] = [

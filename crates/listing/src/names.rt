@@ -4,7 +4,7 @@ use thumb::instructions::{Operation, SpecialRegister, Transfer, Unary};
 use word::Condition;
 
 /// A register by its number, under the name that objdump gives it.
-#[derive(Clone, Copy)]
+#[derive(Clone, Copy, Debug, PartialEq, Eq)]
 pub struct Register(pub u8);
 
 impl fmt::Display for Register {
@@ -22,7 +22,7 @@ impl fmt::Display for Register {
 }
 
 /// A constant as an operand.
-#[derive(Clone, Copy)]
+#[derive(Clone, Copy, Debug, PartialEq, Eq)]
 pub struct Constant(pub u32);
 
 impl fmt::Display for Constant {
@@ -32,7 +32,7 @@ impl fmt::Display for Constant {
 }
 
 /// A list of low registers, and one more.
-#[derive(Clone, Copy)]
+#[derive(Clone, Copy, Debug, PartialEq, Eq)]
 pub struct List {
     pub low: u8,
     pub extra: Option<u8>,

@@ -19,7 +19,7 @@ pub const RAM_SIZE: u32 = 8192;
 pub const PANEL_BASE: u32 = 0x4000_0000;
 
 // What flash holds where nothing was written.
-const ERASED: u8 = 0xff;
+pub const ERASED: u8 = 0xff;
 
 // Puts an image into the flash and erases the rest; one that is too long is refused.
 pub fn burn(flash: &mut [u8], image: &[u8]) -> Result<(), Refusal>

@@ -36,10 +36,9 @@ impl Rights {
         ensures { result ≡ writes self right }
     {
         match self {
-            Rights::Nothing => false,
+            Rights::Nothing | Rights::PrivilegedReads | Rights::Reads => false,
             Rights::Privileged | Rights::PrivilegedWrites => privileged(right),
             Rights::Everything => true,
-            Rights::PrivilegedReads | Rights::Reads => false,
         }
     }
 }

@@ -4,6 +4,10 @@ ghost use Rattle.arch.specs.Priorities.{priority as priority_of, execution_prior
 
 use arch::Registers;
 
+const NMI: u8 = 2;
+
+const HARD_FAULT: u8 = 3;
+
 // The numbers of exceptions are below this.
 const NUMBERS: u8 = 48;
 
@@ -17,8 +21,8 @@ pub fn priority(r: &Registers, n: u8) -> i32
     ensures { result ≡ priority_of r.now n }
 {
     match n {
-        2 => -2,
-        3 => -1,
+        NMI => -2,
+        HARD_FAULT => -1,
         _ => 64 * i32::from(rank(r, n)),
     }
 }

@@ -6,7 +6,7 @@ use std::str::Split;
 use thiserror::Error;
 
 // What a line says of the core and the data, in the order of its numbers.
-#[derive(Clone, Copy, Default)]
+#[derive(Clone, Copy, Debug, Default, PartialEq, Eq)]
 pub struct Row {
     pub general: [u32; 13],
     pub sp: u32,
@@ -18,7 +18,7 @@ pub struct Row {
     pub data: [u32; 12],
 }
 
-#[derive(Clone, Copy)]
+#[derive(Clone, Copy, Debug, PartialEq, Eq)]
 pub struct Case {
     // the halfwords at PC and PC + 2
     pub first: u16,

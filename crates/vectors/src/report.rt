@@ -5,7 +5,7 @@ use std::io;
 // How many differences, and how many malformed lines, are printed.
 const MOST: u64 = 50;
 
-#[derive(Clone, Copy, Default)]
+#[derive(Clone, Copy, Debug, Default, PartialEq, Eq)]
 struct Count {
     cases: u64,
     agreed: u64,
@@ -22,6 +22,12 @@ impl Count {
         let agreed = self.agreed;
         println!(rt; "{agreed} of {cases} agree: {name}")
     }
+}
+
+// Counts one more, which is printed if it is one of the first.
+fn is_printed(count: &mut u64) -> bool {
+    *count = count.saturating_add(1);
+    *count <= MOST
 }
 
 // Counts alone: what prints takes the handle beside it, since a count needs none.
@@ -64,8 +70,7 @@ impl Report {
         if expected == found {
             return Ok(());
         }
-        self.differences = self.differences.saturating_add(1);
-        if self.differences > MOST {
+        if !is_printed(&mut self.differences) {
             return Ok(());
         }
         let line = self.line;
@@ -73,8 +78,7 @@ impl Report {
     }
 
     pub fn mistake(&mut self, rt: &HostRuntime, mistake: Mistake) -> io::Result<()> {
-        self.malformed = self.malformed.saturating_add(1);
-        if self.malformed > MOST {
+        if !is_printed(&mut self.malformed) {
             return Ok(());
         }
         let line = self.line;

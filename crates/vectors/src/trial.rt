@@ -12,7 +12,7 @@ const DATA_SIZE: usize = 48;
 const CODE_SIZE: usize = 8;
 
 // What a step came to, beside what the line says.
-#[derive(Clone, Copy)]
+#[derive(Clone, Copy, Debug, PartialEq, Eq)]
 pub struct Outcome {
     pub answer: Answer,
     pub before: Registers,
@@ -80,6 +80,7 @@ fn step(case: &Case, core: &mut Core, data: &mut [u8]) -> Result<Answer, Refusal
     let limit = Limit::new(at.max(case.base))?;
     let data = Strip::new(data, case.base, 0)?;
     let code = Strip::new(&mut code, at, CODE_SIZE as u32)?;
+    // two calls: of a pair that either branch fills, what the two strips own is not proved where they join
     if u64::from(case.base) + DATA_SIZE as u64 <= u64::from(at) {
         let mut memory = Split::new(limit, data, code);
         return core.step(&mut memory);
