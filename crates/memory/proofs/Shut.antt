@@ -1,5 +1,5 @@
 -- While one flat runs, its neighbour's RAM and code are shut.
-use Rattle.std.proofs.Common.{◌≡◌, ℕ, ◌/◌, ◌^◌, ◌<◌, Bool, true, false, eqb, List, [], ◌∷◌, length, drop, replicate, Some, Option, refl, ap, ◌∙◌, inl, inr, arith, eq-eqb, ne_eqb, eqb-true}
+use Rattle.std.proofs.Common.{◌≡◌, ℕ, ◌/◌, ◌^◌, ◌<◌, Bool, true, false, eqb, List, [], ◌∷◌, length, drop, replicate, Some, refl, ap, ◌∙◌, inl, inr, arith, eq-eqb, ne_eqb, eqb-true}
 use Rattle.std.proofs.Math.Bool.{and-true}
 use native.Mathlib.Nat.{zero-div}
 use Rattle.bus.specs.declared.access.Right.{Right}
@@ -8,6 +8,7 @@ use Rattle.bus.specs.declared.access.Use.TheVariants.{Fetch, Read, Write}
 use Rattle.parts.specs.Region.{off_region, eighth, is_privileged, region_covers, permits_use}
 use Rattle.parts.specs.RegionCheck.{covered_by, deciding, passes_by, passes}
 use Rattle.parts.specs.declared.region.Region.{Region}
+use Rattle.parts.specs.declared.region.Slot.{Slot}
 use Rattle.parts.specs.declared.region.Rights.TheVariants.{Privileged}
 use Rattle.parts.proofs.Deciders.{greatest_hit, greatest_miss}
 use Rattle.memory.specs.Flats.{neighbour, handed_to, Spare, Shut}
@@ -15,10 +16,10 @@ use Rattle.memory.specs.declared.flats.Flat.{Flat}
 use Rattle.memory.specs.declared.flats.Flat.TheVariants.{One, Two}
 
 -- all regions, where a flat runs and the last two are off
-abbrev eight : Flat → List (Option Region)
+abbrev eight : Flat → List Slot
 eight = handed_to (replicate 8 off_region)
 
-anew : (flat : Flat) (regions : List (Option Region)) → Spare regions → handed_to regions flat ≡ eight flat
+anew : (flat : Flat) (regions : List Slot) → Spare regions → handed_to regions flat ≡ eight flat
 anew One (a ∷ b ∷ c ∷ d ∷ e ∷ f ∷ rest) spare = ap (λ end. handed_to (a ∷ b ∷ c ∷ d ∷ e ∷ f ∷ end) One) spare
 anew Two (a ∷ b ∷ c ∷ d ∷ e ∷ f ∷ rest) spare = ap (λ end. handed_to (a ∷ b ∷ c ∷ d ∷ e ∷ f ∷ end) Two) spare
 anew flat [] spare = absurd (omega (arith, ap length spare))
@@ -94,9 +95,9 @@ shut One background a user (inr there) = ap (λ o. passes_by o (eight One) backg
 shut Two background a user (inl there) = ap (λ o. passes_by o (eight Two) background a) (ram_of_one a.address (eqb-true _ _ there)) ∙ denied a.usage a.right 0x2000_0400 true user
 shut Two background a user (inr there) = ap (λ o. passes_by o (eight Two) background a) (code_of_one a.address (eqb-true _ _ there)) ∙ denied a.usage a.right 0x400 false user
 
-pub still_spare : (flat : Flat) (regions : List (Option Region)) → Spare regions → Spare (handed_to regions flat)
+pub still_spare : (flat : Flat) (regions : List Slot) → Spare regions → Spare (handed_to regions flat)
 still_spare One regions spare = ap (drop 6) (anew One regions spare)
 still_spare Two regions spare = ap (drop 6) (anew Two regions spare)
 
-pub neighbour_shut : (flat : Flat) (regions : List (Option Region)) → Spare regions → Shut (neighbour flat) (handed_to regions flat)
+pub neighbour_shut : (flat : Flat) (regions : List Slot) → Spare regions → Shut (neighbour flat) (handed_to regions flat)
 neighbour_shut flat regions spare background a user there = ap (λ all. passes all background a) (anew flat regions spare) ∙ shut flat background a user there

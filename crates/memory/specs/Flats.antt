@@ -1,9 +1,9 @@
 -- What belongs to each flat, and the regions that the supervisor sets for it.
-use Rattle.std.specs.Prelude.{◌≡◌, ℕ, ◌+◌, ◌/◌, Bool, true, false, ◌⊎◌, List, [], ◌∷◌, drop, Option, ◌==◌}
+use Rattle.std.specs.Prelude.{◌≡◌, ℕ, ◌+◌, ◌/◌, Bool, true, false, ◌⊎◌, List, [], ◌∷◌, drop, ◌==◌}
 use Rattle.bus.specs.declared.access.Access.{Access}
 use Rattle.parts.specs.Region.{off_region, is_privileged}
 use Rattle.parts.specs.RegionCheck.{regions_after, passes}
-use Rattle.parts.specs.declared.region.Region.{Region}
+use Rattle.parts.specs.declared.region.Slot.{Slot}
 use Rattle.parts.specs.declared.region.Setting.{Setting}
 use Rattle.memory.specs.declared.flats.Flat.{Flat}
 use Rattle.memory.specs.declared.flats.Flat.TheVariants.{One, Two}
@@ -65,7 +65,7 @@ abbrev pub first_region : Flat → ℕ
 first_region One = 0
 first_region Two = 3
 
-abbrev pub flat_regions : List (Option Region) → Flat → Turn → List (Option Region)
+abbrev pub flat_regions : List Slot → Flat → Turn → List Slot
 flat_regions regions flat turn =
     regions_after
     (regions_after
@@ -74,15 +74,15 @@ flat_regions regions flat turn =
     (first_region flat + 2) (panel_region flat turn)
 
 -- both flats wait
-abbrev pub both_wait : List (Option Region) → List (Option Region)
+abbrev pub both_wait : List Slot → List Slot
 both_wait regions = flat_regions (flat_regions regions One Waits) Two Waits
 
 -- the regions of one flat are shut, and then those of the other opened
-abbrev pub handed_to : List (Option Region) → Flat → List (Option Region)
+abbrev pub handed_to : List Slot → Flat → List Slot
 handed_to regions flat = flat_regions (flat_regions regions (neighbour flat) Waits) flat Runs
 
 -- the last two of the eight regions are off
-abbrev pub Spare : List (Option Region) → Type 0
+abbrev pub Spare : List Slot → Type 0
 Spare regions = drop 6 regions ≡ off_region ∷ off_region ∷ []
 
 -- the RAM or the code of a flat, 1024 bytes each
@@ -93,7 +93,7 @@ abbrev pub in_code : Flat → ℕ → Bool
 in_code flat x = x / 1024 == code_base flat / 1024
 
 -- no unprivileged access to the flat's RAM or code passes
-abbrev pub Shut : Flat → List (Option Region) → Type 0
+abbrev pub Shut : Flat → List Slot → Type 0
 Shut flat regions =
     (background : Bool) (a : Access) → is_privileged a.right ≡ false
     → (in_ram flat a.address ≡ true) ⊎ (in_code flat a.address ≡ true)

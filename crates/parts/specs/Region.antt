@@ -1,5 +1,5 @@
 -- One region: the addresses it covers, and what it permits there.
-use Rattle.std.specs.Prelude.{ℕ, ◌-◌, ◌/◌, ◌%◌, ◌^◌, Bool, true, false, cond, not, ◌&&◌, Some, None, Ok, Err, Option, Result, ◌==◌, nat_le}
+use Rattle.std.specs.Prelude.{ℕ, ◌-◌, ◌/◌, ◌%◌, ◌^◌, Bool, true, false, cond, not, ◌&&◌, Ok, Err, Result, ◌==◌, nat_le}
 use Rattle.bus.specs.declared.access.Access.{Access}
 use Rattle.bus.specs.declared.access.Right.{Right}
 use Rattle.bus.specs.declared.access.Right.TheVariants.{Privileged as privileged, Unprivileged as unprivileged}
@@ -8,6 +8,8 @@ use Rattle.bus.specs.declared.access.Use.TheVariants.{Fetch, Read, Write}
 use Rattle.bus.specs.declared.refusal.Refusal.{Refusal}
 use Rattle.bus.specs.declared.refusal.Refusal.TheVariants.{BadSetting}
 use Rattle.parts.specs.declared.region.Region.{Region}
+use Rattle.parts.specs.declared.region.Slot.{Slot}
+use Rattle.parts.specs.declared.region.Slot.TheVariants.{On, Off}
 use Rattle.parts.specs.declared.region.Rights.{Rights}
 use Rattle.parts.specs.declared.region.Rights.TheVariants.{Nothing, Privileged, PrivilegedWrites, Everything, PrivilegedReads, Reads}
 use Rattle.parts.specs.declared.region.Setting.{Setting}
@@ -67,25 +69,30 @@ permits_use (Write width) r right = writes r.rights right
 abbrev pub region_permits : Region → Access → Bool
 region_permits r a = permits_use a.usage r a.right
 
--- a region that is off covers nothing and permits nothing
-abbrev pub off_region : Option Region
-off_region = None
+-- what no setting was made of
+abbrev pub off_region : Slot
+off_region = Off (record { base = 0; exponent = 0; rights = Nothing; no_fetch = false; sub_marks = 0 })
 
-abbrev pub covers : Option Region → ℕ → Bool
-covers (Some r) x = region_covers r x
-covers None x = false
+-- a region that is off covers nothing
+abbrev pub covers : Slot → ℕ → Bool
+covers (On r) x = region_covers r x
+covers (Off r) x = false
 
-abbrev pub permits : Option Region → Access → Bool
-permits (Some r) a = region_permits r a
-permits None a = false
+abbrev pub permits : Slot → Access → Bool
+permits (On r) a = region_permits r a
+permits (Off r) a = region_permits r a
 
-abbrev pub with_rights : Result Rights Refusal → Setting → Result (Option Region) Refusal
+abbrev pub in_slot : Bool → Region → Slot
+in_slot true r = On r
+in_slot false r = Off r
+
+abbrev pub with_rights : Result Rights Refusal → Setting → Result Slot Refusal
 with_rights (Err refusal) s = Err refusal
 with_rights (Ok rights) s =
     cond (exponent_fits s.exponent && s.base % 2 ^ s.exponent == 0)
-    (Ok (cond s.on (Some (record { base = s.base; exponent = s.exponent; rights = rights; no_fetch = s.no_fetch; sub_marks = s.sub_marks })) None))
+    (Ok (in_slot s.on (record { base = s.base; exponent = s.exponent; rights = rights; no_fetch = s.no_fetch; sub_marks = s.sub_marks })))
     (Err BadSetting)
 
 -- a setting with a code that means something, an exponent that fits, and a base that is a multiple of the region's size
-abbrev pub region_of : Setting → Result (Option Region) Refusal
+abbrev pub region_of : Setting → Result Slot Refusal
 region_of s = with_rights (rights_of s.code) s

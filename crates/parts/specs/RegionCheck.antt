@@ -10,7 +10,7 @@ use Rattle.bus.specs.declared.fault.Cause.TheVariants.{Forbidden, Misaligned}
 use Rattle.bus.specs.declared.refusal.Refusal.{Refusal}
 use Rattle.bus.specs.declared.refusal.Refusal.TheVariants.{OutOfRange}
 use Rattle.parts.specs.Region.{is_privileged, covers, permits, region_of, off_region}
-use Rattle.parts.specs.declared.region.Region.{Region}
+use Rattle.parts.specs.declared.region.Slot.{Slot}
 use Rattle.parts.specs.declared.region_check.RegionCheck.{RegionCheck}
 use Rattle.parts.specs.declared.region.Setting.{Setting}
 
@@ -25,26 +25,26 @@ Decides test n (Some k) = (k < n) × (test k ≡ true) × ((j : ℕ) → k < j �
 Decides test n None = (j : ℕ) → j < n → test j ≡ false
 
 -- region k covers x
-abbrev pub covered_by : List (Option Region) → ℕ → ℕ → Bool
+abbrev pub covered_by : List Slot → ℕ → ℕ → Bool
 covered_by regions x k = covers (slice_index_or regions k off_region) x
 
 -- the number of the region that decides on x
-abbrev pub deciding : List (Option Region) → ℕ → Option ℕ
+abbrev pub deciding : List Slot → ℕ → Option ℕ
 deciding regions x = greatest (covered_by regions x) (length regions)
 
 -- where no region covers, only privileged accesses pass, and only with the background mark
-abbrev pub passes_by : Option ℕ → List (Option Region) → Bool → Access → Bool
+abbrev pub passes_by : Option ℕ → List Slot → Bool → Access → Bool
 passes_by (Some k) regions background a = permits (slice_index_or regions k off_region) a
 passes_by None regions background a = background && is_privileged a.right
 
-abbrev pub passes : List (Option Region) → Bool → Access → Bool
+abbrev pub passes : List Slot → Bool → Access → Bool
 passes regions background a = passes_by (deciding regions a.address) regions background a
 
 -- one region, or none, decides on every byte of an aligned access
-abbrev pub OneDecider : List (Option Region) → Access → Type 0
+abbrev pub OneDecider : List Slot → Access → Type 0
 OneDecider regions a = misaligned a ≡ false → (x : ℕ) → covers_byte a x ≡ true → deciding regions x ≡ deciding regions a.address
 
-abbrev pub check_verdict : List (Option Region) → Bool → (Access → Verdict) → Access → Verdict
+abbrev pub check_verdict : List Slot → Bool → (Access → Verdict) → Access → Verdict
 check_verdict regions background below a =
     refused_if (misaligned a) (raised Misaligned a 4)
     (refused_if (not (passes regions background a)) (raised Forbidden a 4)
@@ -58,16 +58,16 @@ check_laws laws = record {
 }
 
 -- the answer to setting region k, and the regions after it
-abbrev pub unit_answer : Result (Option Region) Refusal → Result (Unit {0}) Refusal
+abbrev pub unit_answer : Result Slot Refusal → Result (Unit {0}) Refusal
 unit_answer (Ok region) = Ok tt
 unit_answer (Err refusal) = Err refusal
 
 abbrev pub setting_answer : ℕ → Setting → Result (Unit {0}) Refusal
 setting_answer k setting = cond (nat_lt k 8) (unit_answer (region_of setting)) (Err OutOfRange)
 
-abbrev pub with_region : List (Option Region) → ℕ → Result (Option Region) Refusal → List (Option Region)
+abbrev pub with_region : List Slot → ℕ → Result Slot Refusal → List Slot
 with_region regions k (Ok region) = slice_set regions k region
 with_region regions k (Err refusal) = regions
 
-abbrev pub regions_after : List (Option Region) → ℕ → Setting → List (Option Region)
+abbrev pub regions_after : List Slot → ℕ → Setting → List Slot
 regions_after regions k setting = cond (nat_lt k 8) (with_region regions k (region_of setting)) regions

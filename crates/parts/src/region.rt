@@ -1,6 +1,6 @@
 // One region: the addresses it covers, and what it permits there.
 ghost use Rattle.std.specs.Prelude.{◌≡◌};
-ghost use Rattle.parts.specs.Region.{rights_of, is_privileged, reads, writes, region_covers, region_permits, region_of};
+ghost use Rattle.parts.specs.Region.{rights_of, is_privileged, reads, writes, region_covers, region_permits, covers, permits, region_of, off_region};
 
 use bus::{Access, Refusal, Right, Use};
 
@@ -83,7 +83,7 @@ pub struct Setting {
     pub sub_marks: u8,
 }
 
-// A region that is on.
+// The numbers of a region that was checked.
 #[derive(Clone, Copy, Debug, PartialEq, Eq)]
 pub struct Region {
     base: u32,
@@ -93,9 +93,29 @@ pub struct Region {
     sub_marks: u8,
 }
 
-impl Region {
-    // The region of a setting, where it is on. What no region can have is refused, on or off.
-    pub fn of(setting: Setting) -> Result<Option<Region>, Refusal>
+// One of the eight: a region that is off keeps its numbers, and covers nothing.
+#[derive(Clone, Copy, Debug, PartialEq, Eq)]
+pub enum Slot {
+    On(Region),
+    Off(Region),
+}
+
+impl Slot {
+    // What no setting was made of.
+    pub fn off() -> Slot
+        ensures { result ≡ off_region }
+    {
+        Slot::Off(Region {
+            base: 0,
+            exponent: 0,
+            rights: Rights::Nothing,
+            no_fetch: false,
+            sub_marks: 0,
+        })
+    }
+
+    // The region of a setting. What no region can have is refused, on or off.
+    pub fn of(setting: Setting) -> Result<Slot, Refusal>
         ensures { result ≡ region_of setting }
     {
         let rights = Rights::try_from(setting.code)?;
@@ -112,10 +132,34 @@ impl Region {
             no_fetch: setting.no_fetch,
             sub_marks: setting.sub_marks,
         };
-        Ok(setting.on.then_some(region))
+        Ok(if setting.on {
+            Slot::On(region)
+        } else {
+            Slot::Off(region)
+        })
     }
 
     pub fn covers(&self, address: u32) -> bool
+        ensures { result ≡ covers self.now address }
+    {
+        match self {
+            Slot::On(region) => region.covers(address),
+            Slot::Off(_) => false,
+        }
+    }
+
+    // Whether the region, where it decides, lets the access pass.
+    pub fn permits(&self, access: Access) -> bool
+        ensures { result ≡ permits self.now access }
+    {
+        match self {
+            Slot::On(region) | Slot::Off(region) => region.permits(access),
+        }
+    }
+}
+
+impl Region {
+    fn covers(&self, address: u32) -> bool
         ensures { result ≡ region_covers self.now address }
     {
         // tested again: a region is its numbers alone, and the definition is right for all of them
@@ -128,8 +172,7 @@ impl Region {
             && (self.sub_marks >> eighth) % 2 == 0
     }
 
-    // Whether the region, where it decides, lets the access pass.
-    pub fn permits(&self, access: Access) -> bool
+    fn permits(&self, access: Access) -> bool
         ensures { result ≡ region_permits self.now access }
     {
         match access.usage {

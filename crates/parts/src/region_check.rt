@@ -1,35 +1,34 @@
 // A region check: one bus, and eight regions that say who may use what of it.
-ghost use Rattle.std.specs.Prelude.{◌≡◌, ℕ, Bool, false, ◌&&◌, List, length, replicate, Option, ◌≢◌, slice_index_or};
+ghost use Rattle.std.specs.Prelude.{◌≡◌, ℕ, Bool, false, ◌&&◌, List, length, replicate, ◌≢◌, slice_index_or};
 ghost use Rattle.bus.specs.declared.access.Access.{Access};
-ghost use Rattle.parts.specs.declared.region.Region.{Region};
+ghost use Rattle.parts.specs.declared.region.Slot.{Slot};
 ghost use Rattle.parts.specs.Region.{off_region, is_privileged};
 ghost use Rattle.parts.specs.RegionCheck.{covered_by, deciding, Decides, OneDecider, passes, setting_answer, regions_after, check_verdict, check_laws};
 
-use crate::region::{Region, Setting};
+use crate::region::{Setting, Slot};
 use crate::{hop, region};
 use bus::{Access, Bus, Cause, Fault, Refusal};
 
 const REGION_CHECK_KIND: u8 = 4;
 
-// Eight regions; there is nothing where one is off.
 #[derive(Clone, Copy)]
 pub struct Table {
-    regions: [Option<Region>; 8],
+    regions: [Slot; 8],
 }
 
 // The number of the region that decides on an address: the highest that covers it.
-fn deciding_region(regions: &[Option<Region>], address: u32) -> Option<usize>
+fn deciding_region(regions: &[Slot], address: u32) -> Option<usize>
     ensures value { result ≡ deciding regions.now address }
     ensures highest { Decides (covered_by regions.now address) (length regions.now) result }
 {
-    regions.iter().rposition(|region| region.is_some_and(|region| region.covers(address)))
+    regions.iter().rposition(|slot| slot.covers(address))
 }
 
-fn passes_regions(regions: &[Option<Region>], background: bool, access: Access) -> bool
+fn passes_regions(regions: &[Slot], background: bool, access: Access) -> bool
     ensures { result ≡ passes regions.now background access }
 {
     match deciding_region(regions, access.address) {
-        Some(number) => regions[number].is_some_and(|region| region.permits(access)),
+        Some(number) => regions[number].permits(access),
         None => background && region::privileged(access.right),
     }
 }
@@ -48,7 +47,9 @@ impl<B: Bus> RegionCheck<B> {
     {
         RegionCheck {
             below,
-            table: Table { regions: [None; 8] },
+            table: Table {
+                regions: [Slot::off(); 8],
+            },
             background: false,
         }
     }
@@ -63,7 +64,7 @@ impl<B: Bus> RegionCheck<B> {
         if number > 7 {
             return Err(Refusal::OutOfRange);
         }
-        let region = Region::of(setting)?;
+        let region = Slot::of(setting)?;
         self.table.regions[number as usize] = region;
         Ok(())
     }
@@ -102,7 +103,7 @@ impl<B: Bus> Bus for RegionCheck<B> {
 
     ghost verdict = { λ s. check_verdict s.table.regions s.background (B.Bus.verdict s.below) };
 
-    ghost Settings = { List (Option Region) × (Bool × B.Bus.Settings) };
+    ghost Settings = { List Slot × (Bool × B.Bus.Settings) };
 
     ghost settings = { λ s. (s.table.regions, (s.background, B.Bus.settings s.below)) };
 

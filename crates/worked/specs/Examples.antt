@@ -1,5 +1,5 @@
 -- Worked examples, each a step of a core from address 0 over memory that allows everything.
-use Rattle.std.specs.Prelude.{◌≡◌, ℕ, ◌/◌, ◌%◌, Bool, true, false, cond, ◌∷◌, replicate, Some, None, Ok, Err, Option, ◌==◌, slice_index}
+use Rattle.std.specs.Prelude.{◌≡◌, ℕ, ◌/◌, ◌%◌, Bool, true, false, cond, ◌∷◌, replicate, None, Ok, Err, ◌==◌, slice_index}
 use Rattle.bus.specs.Fault.{cause_number}
 use Rattle.bus.specs.Program.{World, run}
 use Rattle.word.specs.declared.flags.Flags.{Flags}
@@ -14,8 +14,9 @@ use Rattle.arch.specs.declared.answers.Answer.TheVariants.{Ran, Entered, Returne
 use Rattle.arch.specs.declared.answers.Completed.TheVariants.{Stepped, Accepted}
 use Rattle.arch.specs.declared.registers.Registers.{Registers}
 use Rattle.parts.specs.Region.{covers}
-use Rattle.parts.specs.declared.region.Region.{Region}
 use Rattle.parts.specs.declared.region.Rights.TheVariants.{Everything}
+use Rattle.parts.specs.declared.region.Slot.{Slot}
+use Rattle.parts.specs.declared.region.Slot.TheVariants.{On}
 
 -- one halfword at address 0, 0 elsewhere, everything allowed
 abbrev pub memory : ℕ → World
@@ -56,8 +57,8 @@ abbrev pub fault_at : ℕ → Registers → ℕ
 fault_at halfword s = fault_of (run (step s) (memory halfword)).0.0
 
 -- base 0x100, 2^8 bytes, the lowest eighth left out
-abbrev pub region : Option Region
-region = Some (record { base = 0x100; exponent = 8; rights = Everything; no_fetch = false; sub_marks = 1 })
+abbrev pub region : Slot
+region = On (record { base = 0x100; exponent = 8; rights = Everything; no_fetch = false; sub_marks = 1 })
 
 pub record Examples : Type 0 where
   -- ADDS R0, R0, #1 past the greatest signed word
