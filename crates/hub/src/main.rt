@@ -7,6 +7,7 @@ use crate::error::HubError;
 use bus::{Bus, Right, Width};
 use memory::{ERASED, FLASH_BASE, FLASH_SIZE, Trouble};
 use parts::Strip;
+use script::PanelLines;
 use std::process::ExitCode;
 use std::{env, fs};
 
@@ -40,7 +41,7 @@ fn read_script(rt: &HostRuntime, path: String) -> Result<String, HubError> {
 
 fn show(rt: &HostRuntime, script: &str) -> Result<(), HubError> {
     let image = image()?;
-    script::show_with(rt, &image, script, |hub| memory::print_panel(rt, hub))?;
+    script::show_with(rt, &image, script, PanelLines::Numbered)?;
     Ok(())
 }
 

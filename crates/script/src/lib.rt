@@ -1,34 +1,39 @@
 // Scripts of accesses: read, played on a hub's memory, and reported.
 #![tactic(auto)]
 
+ghost use Rattle.std.specs.Prelude.{◌≤◌, length, IfOk};
+
 mod play;
 mod report;
 mod story;
 
-use memory::{FLASH_BASE, FLASH_SIZE, Memory, PANEL_BASE, RAM_BASE, RAM_SIZE, Trouble};
-use parts::RegionCheck;
+use memory::{FLASH_BASE, FLASH_SIZE, PANEL_BASE, RAM_BASE, RAM_SIZE, Trouble};
 pub use story::STORY;
 
-// Plays a script on a hub with this image, and reports.
-pub fn show(rt: &HostRuntime, image: &[u8], script: &str) -> Result<(), Trouble> {
-    show_with(
-        rt,
-        image,
-        script,
-        |hub| memory::print_words(rt, hub, PANEL_BASE, 4),
-    )
+// With what a line of the panel begins.
+#[derive(Clone, Copy, Debug, PartialEq, Eq)]
+pub enum PanelLines {
+    // the address of its first word
+    Addressed,
+    // the number of its first word
+    Numbered,
 }
 
-// The same, with the panel printed by `print_panel`.
-pub fn show_with<P>(
+// Plays a script on a hub with this image, and reports.
+pub fn show(rt: &HostRuntime, image: &[u8], script: &str) -> Result<(), Trouble>
+    ensures { IfOk result (λ _. length image.now ≤ 4096) }
+{
+    show_with(rt, image, script, PanelLines::Addressed)
+}
+
+// The same, with the panel's lines as they are asked for. An image that is longer than the flash is not played on.
+pub fn show_with(
     rt: &HostRuntime,
     image: &[u8],
     script: &str,
-    print_panel: P,
+    lines: PanelLines,
 ) -> Result<(), Trouble>
-where
-    P: FnOnce(&mut RegionCheck<Memory<'_>>) -> Result<(), Trouble>,
-    requires { P.IsAlwaysCallable print_panel }
+    ensures { IfOk result (λ _. length image.now ≤ 4096) }
 {
     let heap = rt.alloc();
     let mut flash = vec![in heap; 0u8; FLASH_SIZE as usize]?;
@@ -42,7 +47,10 @@ where
     println!(rt)?;
     report::print_tally(rt, tally)?;
     println!(rt; "\nPanel")?;
-    print_panel(&mut hub)?;
+    match lines {
+        PanelLines::Addressed => memory::print_words(rt, &mut hub, PANEL_BASE, 4)?,
+        PanelLines::Numbered => memory::print_panel(rt, &mut hub)?,
+    }
     println!(rt; "\nBytes that changed")?;
     report::print_changes(rt, FLASH_BASE, &flash_before, &flash)?;
     report::print_changes(rt, RAM_BASE, &ram_before, &ram)?;

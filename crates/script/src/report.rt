@@ -42,13 +42,13 @@ pub fn print_request(
     answer: Answer,
 ) -> io::Result<()> {
     let asked = format!(in rt.alloc(); "{request}")?;
-    print!(rt; "{number:>4}  {asked:<49}  ")?;
+    // a line is printed whole, by one call
     match answer {
-        Ok(Some(value)) => println!(rt; "{value}"),
-        Ok(None) => println!(rt; "written"),
+        Ok(Some(value)) => println!(rt; "{number:>4}  {asked:<49}  {value}"),
+        Ok(None) => println!(rt; "{number:>4}  {asked:<49}  written"),
         Err(fault) => {
             let fault = FaultText(fault);
-            println!(rt; "refused: {fault}")
+            println!(rt; "{number:>4}  {asked:<49}  refused: {fault}")
         }
     }
 }
