@@ -3,6 +3,7 @@ use Rattle.std.proofs.Common.{◌≡◌, ℕ, zero, suc, ◌+◌, ◌^◌, ◌<�
 use native.Mathlib.Nat.{two-pow-succ, zero-div}
 use lib.Count.{ones}
 use Rattle.std.proofs.lemmas.Bool.{eq-eqb, lt-ltb, or_right}
+use Rattle.std.proofs.lemmas.Nat.{zero_from_ones}
 use Rattle.word.specs.Fields.{bit_of}
 use Rattle.word.specs.Sets.{set_with, set_without}
 use Rattle.word.proofs.Members.{mask_is}
@@ -38,6 +39,10 @@ module _ (set k : ℕ) where
 pub ones_empty : ones 0 ≡ 0
 unfolding ones
 ones_empty = refl
+
+-- a set without members is 0
+pub ones_none : (set : ℕ) → ones set ≡ 0 → set ≡ 0
+ones_none set none = zero_from_ones set none
 
 pub bit_zero : (k : ℕ) → bit_of 0 k ≡ false
 bit_zero k = rw zero-div

@@ -9,12 +9,12 @@ use Rattle.bus.specs.declared.access.Width.TheVariants.{Word}
 use Rattle.bus.specs.declared.fault.Fault.{Fault}
 use Rattle.bus.specs.declared.interface.Bus.{Ghosts as Bus}
 use Rattle.word.specs.Fields.{bit_of}
-use Rattle.arch.specs.Accesses.{Attempt, then, read, write}
+use Rattle.arch.specs.Accesses.{Attempt, then, go_on, read, write}
 use Rattle.arch.specs.Registers.{plus, right_of, reg, with_reg}
 use Rattle.arch.specs.Transfers.{registers_from, registers_of, store_registers, load_registers, push_lr}
 use Rattle.arch.specs.declared.registers.Registers.{Registers}
 use Rattle.exec.specs.Lists.{store_if, store_next, load_if, load_next, link_pushed}
-use Rattle.exec.proofs.Sequence.{run_assoc}
+use Rattle.exec.proofs.Sequence.{run_assoc, run_then}
 
 -- the registers from i on: i itself, if it is in the list, and those after it
 pub from_step : (i list : ℕ) → i < 8 → registers_from (8 - i) i list ≡ cond (bit_of list i) (i ∷ registers_from (8 - (i + 1)) (i + 1) list) (registers_from (8 - (i + 1)) (i + 1) list)
@@ -68,5 +68,9 @@ module _ (right : Right) (t : Registers) (list i x : ℕ) (w : World) (h : i < 8
   load_step = ap (λ is. run (load_registers right t is x) w) (from_step i list h) ∙ loads (bit_of list i) (registers_from (8 - (i + 1)) (i + 1) list)
 
 -- what comes after LR is pushed does not look at the address above it
-pub link_then : {S B : Type 0} {bus : Bus S} {old new : S} {r : Result B Fault} (lr : Bool) (s : Registers) (x : ℕ) (next : Unit {0} → Attempt B) → Makes bus old new (then (link_pushed lr s x) next) r → Makes bus old new (then (push_lr lr s x) (λ _. next tt)) r
-link_then {bus} {old} lr s x next made = record { runs = sym (run_assoc (push_lr lr s x) (λ _. done (Ok tt)) next (world bus old)) ∙ made.runs; settled = made.settled }
+pub link_then : {B : Type 0} (lr : Bool) (s : Registers) (x : ℕ) (next : Unit {0} → Attempt B) (w w' : World) (r : Result (Unit {0}) Fault) → run (link_pushed lr s x) w ≡ (r, w') → run (then (push_lr lr s x) (λ _. next tt)) w ≡ run (go_on next r) w'
+link_then lr s x next w w' r e = sym (run_assoc (push_lr lr s x) (λ _. done (Ok tt)) next w) ∙ run_then (link_pushed lr s x) next w w' r e
+
+-- and so it is of what is made of a bus
+pub link_makes : {S B : Type 0} {bus : Bus S} {old new : S} {r : Result B Fault} (lr : Bool) (s : Registers) (x : ℕ) (next : Unit {0} → Attempt B) → Makes bus old new (then (link_pushed lr s x) next) r → Makes bus old new (then (push_lr lr s x) (λ _. next tt)) r
+link_makes {bus} {old} lr s x next made = record { runs = sym (run_assoc (push_lr lr s x) (λ _. done (Ok tt)) next (world bus old)) ∙ made.runs; settled = made.settled }

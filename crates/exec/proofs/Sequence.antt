@@ -13,6 +13,9 @@ use Rattle.exec.specs.Outcome.{Executes, KeptAt}
 pub run_on : {A B : Type 0} (p : Program A) (next : A → Program B) (w w' : World) (a : A) → run p w ≡ (a, w') → run (bind p next) w ≡ run (next a) w'
 run_on {A} p next w w' a e = run_bind p next w ∙ ap (λ (x : A × World). run (next x.0) x.1) e
 
+pub run_then : {A B : Type 0} (p : Attempt A) (next : A → Attempt B) (w w' : World) (r : Result A Fault) → run p w ≡ (r, w') → run (then p next) w ≡ run (go_on next r) w'
+run_then p next w w' r e = run_on p (go_on next) w w' r e
+
 -- of three, it does not matter which two are taken together
 pub run_assoc : {A B C : Type 0} (p : Attempt A) (f : A → Attempt B) (next : B → Attempt C) (w : World) → run (then (then p f) next) w ≡ run (then p (λ a. then (f a) next)) w
 run_assoc (done (Ok a)) f next w = refl

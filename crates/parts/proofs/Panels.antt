@@ -8,7 +8,7 @@ use Rattle.bus.specs.Meaning.{refused_if, answer, after, replied, written}
 use Rattle.bus.specs.Memory.{load, store}
 use Rattle.bus.specs.declared.access.Access.{Access}
 use Rattle.bus.specs.declared.fault.Cause.TheVariants.{Unmapped, WrongWidth}
-use Rattle.bus.proofs.Answer.{answer_allowed, answer_value, refused_if_none, read_answer, write_leaves}
+use Rattle.bus.proofs.Answer.{answer_allowed, answer_value, refused_if_none, read_answer, write_answer, write_leaves}
 use Rattle.bus.proofs.Memory.{store_unique, load_bytes}
 use Rattle.parts.specs.Panel.{on_panel, panel_bytes, panel_verdict}
 use Rattle.parts.specs.declared.panel.Panel.{Panel}
@@ -75,6 +75,9 @@ module _ (p : Panel) (a : Access) (at : ℕ) (begins : Ok at ≡ answer (panel_v
       let here : r ≡ get_or p.words (a.address % 64 / 4) 0 = is ∙ ap (λ i. get_or p.words i 0) place in
       let loaded = load_panel p a.address on aligned (rw here at fits) in
       read_answer (panel_verdict p a) (panel_bytes p) a r allowed reads (rw a_word (here ∙ sym loaded))
+
+  pub panel_wrote : is_write a.usage ≡ true → Ok 0 ≡ answer (panel_verdict p a) (replied (panel_bytes p) a)
+  panel_wrote writes = write_answer (panel_verdict p a) (panel_bytes p) a allowed writes
 
   pub panel_write : (v : ℕ) → is_write a.usage ≡ true → at < length p.words → panel_bytes (record { words = set p.words at v; base = p.base }) ≡ after (panel_verdict p a) (written (panel_bytes p) a v) (panel_bytes p)
   panel_write v writes short =

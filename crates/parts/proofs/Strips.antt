@@ -6,7 +6,7 @@ use Rattle.bus.specs.Meaning.{answer, after, replied, written}
 use Rattle.bus.specs.Memory.{load, store}
 use Rattle.bus.specs.declared.access.Access.{Access}
 use Rattle.bus.specs.declared.access.Width.{Width}
-use Rattle.bus.proofs.Answer.{answer_allowed, answer_value, refused_if_none, read_answer, write_leaves}
+use Rattle.bus.proofs.Answer.{answer_allowed, answer_value, refused_if_none, read_answer, write_answer, write_leaves}
 use Rattle.parts.specs.Strip.{listed, placed, strip_bytes, strip_verdict}
 use Rattle.parts.specs.declared.strip.Strip.{Strip}
 use Rattle.parts.proofs.Placed.{load_placed, store_placed}
@@ -29,6 +29,9 @@ module _ (s : Strip) (a : Access) (width : Width) (at : ℕ) (begins : Ok at ≡
       let here : load (size width) (listed s.bytes.now) at ≡ load (bytes_of a) (listed s.bytes.now) (a.address - s.base) = rw (wide, place) in
       let lifted = load_placed (bytes_of a) s.base (listed s.bytes.now) a.address (above_base s a allowed) in
       read_answer (strip_verdict s a) (strip_bytes s) a r allowed reads (loaded ∙ here ∙ sym lifted)
+
+  pub strip_wrote : is_write a.usage ≡ true → Ok 0 ≡ answer (strip_verdict s a) (replied (strip_bytes s) a)
+  strip_wrote writes = write_answer (strip_verdict s a) (strip_bytes s) a allowed writes
 
   pub strip_write : (xs : List ℕ) (v : ℕ) → is_write a.usage ≡ true → listed xs ≡ store (size width) (listed s.bytes.now) at v → placed s.base (listed xs) ≡ after (strip_verdict s a) (written (strip_bytes s) a v) (strip_bytes s)
   strip_write xs v writes stored =

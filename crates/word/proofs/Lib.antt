@@ -1,5 +1,7 @@
 pub mod Asr
+pub mod Comparing
 pub mod EachBit
+pub mod Lowest
 pub mod Members
 pub mod Moves
 pub mod Overflow

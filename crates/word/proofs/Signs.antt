@@ -1,13 +1,13 @@
 -- Words as signed numbers.
-use Rattle.std.proofs.Common.{◌≡◌, ℕ, suc, ◌+◌, ◌-◌, ◌*◌, ◌/◌, ◌%◌, ◌^◌, ◌<◌, ◌≤◌, true, false, leb, ◌⊎◌, ℤ, pos, negsuc, refl, inr, mod-eq_of_lt, arith, pow_pos, pow_mono, shr_lt}
+use Rattle.std.proofs.Common.{◌≡◌, ℕ, suc, ◌+◌, ◌-◌, ◌*◌, ◌/◌, ◌%◌, ◌^◌, ◌<◌, ◌≤◌, Bool, true, false, cond, leb, ◌⊎◌, ℤ, pos, negsuc, ◌-ℤ◌, refl, inr, mod-eq_of_lt, zero-add, zero-mul, arith, pow_pos, pow_mono, shr_lt}
 use lib.Pow.{high_ones, split}
 use native.Mathlib.Nat.{two-pow-succ}
 use Rattle.std.proofs.lemmas.Nat.{one_shl}
 use Rattle.std.proofs.lemmas.Int.{ints}
 use Rattle.std.proofs.lemmas.Bool.Decides.{nat_tests, eqb_tells}
-use Rattle.word.specs.Extend.{sign_extend}
+use Rattle.word.specs.Extend.{replicate, sign_extend}
 use Rattle.word.specs.Fields.{bit_of}
-use Rattle.word.specs.Integers.{eqZ}
+use Rattle.word.specs.Integers.{eqZ, signed}
 
 -- eqZ with what it tells, for `grind`
 pub eqZ_tells : (a b : ℤ) → ((eqZ a b ≡ true) × (a ≡ b)) ⊎ ((eqZ a b ≡ false) × (a ≡ b → ⊥))
@@ -31,6 +31,18 @@ module _ (w : ℕ) (h : 0 < w) where
 module _ (w n x : ℕ) (h : 0 < w) (k : w ≤ n) (below : x < 2 ^ w) where
   pub ones_above : (2 ^ (n - w) - 1) * 2 ^ w + 2 ^ w ≡ 2 ^ n
   ones_above = let e : n - w + w ≡ n = omega arith in omega (arith, rw e at (high_ones (n - w) w), pow_mono k)
+
+  by_sign : (b : Bool) → bit_of x (w - 1) ≡ b → signed n (replicate b (n - w) * 2 ^ w + x) ≡ cond b (pos x -ℤ pos (2 ^ w)) (pos x)
+  by_sign true e =
+      let s : ℕ = (2 ^ (n - w) - 1) * 2 ^ w + x in
+      let top : bit_of s (n - 1) ≡ true = grind (arith, nat_tests, top_bit w h x below, top_bit n (omega arith) s (omega (arith, ones_above)), ones_above, halves w h, halves n (omega arith)) in
+      rw top (omega (arith, ints, ones_above))
+  by_sign false e =
+      let top : bit_of x (n - 1) ≡ false = grind (arith, nat_tests, top_bit w h x below, top_bit n (omega arith) x (omega (arith, pow_mono k)), pow_mono {i = w - 1} {j = n - 1} (omega arith)) in
+      rw (zero-mul, zero-add, top)
+
+  pub signed_extend : signed n (sign_extend w n x) ≡ signed w x
+  signed_extend = by_sign (bit_of x (w - 1)) refl
 
   -- 2 ^ w taken from the narrow word, where its sign is set, as a word of n bits computes it
   pub extend_by_sub : w < n → bit_of x (w - 1) ≡ true → (x + (2 ^ n - (1 * 2 ^ w) % 2 ^ n)) % 2 ^ n ≡ sign_extend w n x

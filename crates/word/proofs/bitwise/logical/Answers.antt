@@ -12,4 +12,4 @@ pub returns-in-Eor : goal.returns-in-Eor
 returns-in-Eor c = rw c.in-Eor.is (record { value = refl; bits = bit_of-xor c.args.x c.args.y })
 
 pub returns-in-Bic : goal.returns-in-Bic
-returns-in-Bic c = rw c.in-Bic.is (record { value = refl; bits = λ k. bit_bic c.args.x c.args.y k (omega arith) (omega arith) })
+returns-in-Bic c = rw c.in-Bic.is (record { value = refl; bits = λ k. bit_bic c.args.x c.args.y 32 k (omega arith) (omega arith) })
