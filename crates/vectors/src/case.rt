@@ -2,7 +2,6 @@
 use crate::hexadecimal::number;
 use bus::Refusal;
 use std::num::TryFromIntError;
-use std::str::Split;
 use thiserror::Error;
 
 // What a line says of the core and the data, in the order of its numbers.
@@ -30,7 +29,7 @@ pub struct Case {
 }
 
 // Why a line is no case.
-#[derive(Debug, Drop, Error)]
+#[derive(Clone, Copy, Debug, PartialEq, Eq, Error)]
 pub enum Mistake {
     #[error("too few fields")]
     TooShort,
@@ -58,44 +57,50 @@ impl From<Refusal> for Mistake {
     }
 }
 
-fn next<'a>(fields: &mut Split<'a, char>) -> Result<&'a str, Mistake> {
-    fields.next().ok_or(Mistake::TooShort)
+// All numbers of a line in their order: two halfwords, the base, the row before the step, and the row after it, where
+// `-` stands for the number before. One loop calls `number` at one place, so that the compiler puts it inline.
+fn numbers(line: &str) -> Result<[u32; 63], Mistake> {
+    let mut fields = line.split(' ');
+    let mut numbers = [0; 63];
+    for index in 0..63usize {
+        let field = fields.next().ok_or(Mistake::TooShort)?;
+        numbers[index] = match field {
+            "-" if index >= 33 => numbers[index - 30],
+            field => number(field)?,
+        };
+    }
+    if fields.next().is_some() {
+        return Err(Mistake::TooLong);
+    }
+    Ok(numbers)
 }
 
 impl Row {
-    // The row of what `read` makes of each number of this one, in their order.
-    fn try_map<F: FnMut(u32) -> Result<u32, Mistake>>(self, mut read: F) -> Result<Row, Mistake>
-        requires { (state : F) (x : _) → F.pre state x }
-    {
-        Ok(Row {
-            general: self.general.try_map(&mut read)?,
-            sp: read(self.sp)?,
-            lr: read(self.lr)?,
-            pc: read(self.pc)?,
-            nzcv: read(self.nzcv)?,
-            primask: read(self.primask)?,
-            data: self.data.try_map(read)?,
-        })
+    // From its numbers in the order of a line.
+    fn from_numbers(numbers: &[u32; 30]) -> Row {
+        let (general, _) = numbers.as_chunks();
+        let (others, _) = numbers[13..].as_chunks::<5>();
+        let (data, _) = numbers[18..].as_chunks();
+        let [sp, lr, pc, nzcv, primask] = others[0];
+        Row {
+            general: general[0],
+            sp,
+            lr,
+            pc,
+            nzcv,
+            primask,
+            data: data[0],
+        }
     }
 }
 
 impl Case {
-    // Two halfwords, the base, the row before the step, and the row after it, where `-` stands for the number before.
     pub fn parse(line: &str) -> Result<Case, Mistake> {
-        let mut fields = line.split(' ');
-        let first = number(next(&mut fields)?)?;
-        let second = number(next(&mut fields)?)?;
-        let base = number(next(&mut fields)?)?;
-        let before = Row::default().try_map(|_| number(next(&mut fields)?))?;
-        let after = before.try_map(|earlier| {
-            match next(&mut fields)? {
-                "-" => Ok(earlier),
-                field => number(field),
-            }
-        })?;
-        if fields.next().is_some() {
-            return Err(Mistake::TooLong);
-        }
+        let numbers = numbers(line)?;
+        let [first, second, base, ..] = numbers;
+        let (rows, _) = numbers[3..].as_chunks();
+        let before = Row::from_numbers(&rows[0]);
+        let after = Row::from_numbers(&rows[1]);
         if before.nzcv > 15 || before.primask > 1 {
             return Err(Mistake::TooLarge);
         }
