@@ -7,12 +7,12 @@ use Rattle.bus.specs.declared.interface.Bus.{Ghosts as Bus}
 abbrev pub world : {S : Type 0} → Bus S → S → World
 world bus s = world_of bus.bytes bus.verdict s
 
--- from `old` to `new` the accesses of the program are made and no others, it answers `a`, and the settings stay
+-- from `old` to `new` it comes to what the program of accesses comes to: answer, contents and verdicts; and the settings stay
 pub record Makes {S A : Type 0} (bus : Bus S) (old new : S) (program : Program A) (a : A) : Type 0 where
   pub runs : run program (world bus old) ≡ (a, world bus new)
   pub settled : bus.settings new ≡ bus.settings old
 
--- nothing but reads was made of it
+-- contents, verdicts and settings stay, as where only reads are made
 pub record Leaves {S : Type 0} (bus : Bus S) (old new : S) : Type 0 where
   pub contents : bus.bytes new ≡ bus.bytes old
   pub verdicts : bus.verdict new ≡ bus.verdict old

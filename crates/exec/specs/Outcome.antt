@@ -29,7 +29,7 @@ abbrev pub returned_to : Result (Unit {0}) Fault → Registers → Result Regist
 returned_to (Ok u) t = Ok t
 returned_to (Err f) t = Err f
 
--- from `before` to `after` the accesses of the program are made and no others, they come to what the result and the registers say, a refusal leaves the registers, and the settings of the bus stay
+-- from `before` to `after` it comes to what the program of accesses comes to, as the result and the registers say; a refusal leaves the registers, and the settings of the bus stay
 pub record Executes {S A R : Type 0} (bus : Bus S) (before after : S) (s t : Registers) (program : Attempt A) (told : Result R Fault → Registers → Result A Fault) (result : Result R Fault) : Type 0 where
   pub runs : run program (world bus before) ≡ (told result t, world bus after)
   pub kept : KeptAt result s t

@@ -52,7 +52,7 @@ impl Core {
         }
     }
 
-    // A core with registers that were read from one; others are refused. No `TryFrom`, which would say nothing of that.
+    // A core with registers that were read from one; others are refused. No `TryFrom`, which would be a second name for it.
     pub fn with_registers(registers: Registers) -> Result<Core, Refusal>
         ensures { Restored result registers }
     {
