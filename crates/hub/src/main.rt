@@ -41,7 +41,7 @@ fn read_script(rt: &HostRuntime, path: String) -> Result<String, HubError> {
 
 fn show(rt: &HostRuntime, script: &str) -> Result<(), HubError> {
     let image = image()?;
-    script::show_with(rt, &image, script, PanelLines::Numbered)?;
+    script::show_with_lines(rt, &image, script, PanelLines::Numbered)?;
     Ok(())
 }
 

@@ -1,13 +1,17 @@
 // Scripts of accesses: read, played on a hub's memory, and reported.
 #![tactic(auto)]
 
-ghost use Rattle.std.specs.Prelude.{◌≤◌, length, IfOk};
+ghost use Rattle.std.specs.Fn.{FnOnceReturnsAtMut};
+ghost use Rattle.std.specs.Prelude.{◌≤◌, length, Ok, IfOk};
 
 mod play;
 mod report;
 mod story;
+#[cfg(test)]
+mod tests;
 
-use memory::{FLASH_BASE, FLASH_SIZE, PANEL_BASE, RAM_BASE, RAM_SIZE, Trouble};
+use memory::{FLASH_BASE, FLASH_SIZE, Memory, PANEL_BASE, RAM_BASE, RAM_SIZE, Trouble};
+use parts::RegionCheck;
 pub use story::STORY;
 
 // With what a line of the panel begins.
@@ -23,11 +27,11 @@ pub enum PanelLines {
 pub fn show(rt: &HostRuntime, image: &[u8], script: &str) -> Result<(), Trouble>
     ensures { IfOk result (λ _. length image.now ≤ 4096) }
 {
-    show_with(rt, image, script, PanelLines::Addressed)
+    show_with_lines(rt, image, script, PanelLines::Addressed)
 }
 
 // The same, with the panel's lines as they are asked for. An image that is longer than the flash is not played on.
-pub fn show_with(
+pub fn show_with_lines(
     rt: &HostRuntime,
     image: &[u8],
     script: &str,
@@ -55,6 +59,42 @@ pub fn show_with(
     report::print_changes(rt, FLASH_BASE, &flash_before, &flash)?;
     report::print_changes(rt, RAM_BASE, &ram_before, &ram)?;
     if flash == flash_before && ram == ram_before {
+        println!(rt; "  none")?;
+    }
+    Ok(())
+}
+
+// The same, with the panel printed by `print_panel`, called once, on the hub as the script left it. The body stands again:
+// the programs print the panel in one of the two ways above, and so call no closure.
+pub fn show_with<P>(
+    rt: &HostRuntime,
+    image: &[u8],
+    script: &str,
+    print_panel: P,
+) -> Result<(), Trouble>
+where
+    P: FnOnce(&mut RegionCheck<Memory<'_>>) -> Result<(), Trouble>,
+    requires { P.IsAlwaysCallable print_panel }
+    ensures fits { IfOk result (λ _. length image.now ≤ 4096) }
+    ensures printed { IfOk result (λ _. (before : _) × (after : _) × FnOnceReturnsAtMut P.FnOnce print_panel before (Ok tt) after) }
+{
+    let heap = rt.alloc();
+    let mut flash_now = vec![in heap; 0u8; FLASH_SIZE as usize]?;
+    let mut ram_now = vec![in heap; 0u8; RAM_SIZE as usize]?;
+    memory::burn(&mut flash_now, image)?;
+    let flash_before = flash_now.clone()?;
+    let ram_before = ram_now.clone()?;
+    let mut hub = memory::build(&mut flash_now, &mut ram_now)?;
+    report::print_map(rt)?;
+    let tally = play::play(rt, &mut hub, script)?;
+    println!(rt)?;
+    report::print_tally(rt, tally)?;
+    println!(rt; "\nPanel")?;
+    print_panel(&mut hub)?;
+    println!(rt; "\nBytes that changed")?;
+    report::print_changes(rt, FLASH_BASE, &flash_before, &flash_now)?;
+    report::print_changes(rt, RAM_BASE, &ram_before, &ram_now)?;
+    if flash_now == flash_before && ram_now == ram_before {
         println!(rt; "  none")?;
     }
     Ok(())

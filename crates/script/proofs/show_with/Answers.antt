@@ -1,12 +1,9 @@
-use Rattle.std.proofs.Common.{◌≡◌, ℕ, ◌≤◌, cond, leb, Ok, Err, Result, arith}
-use Rattle.std.proofs.lemmas.Bool.Decides.{nat_tests}
-use Rattle.bus.specs.declared.refusal.Refusal.{Refusal}
-use Rattle.bus.specs.declared.refusal.Refusal.TheVariants.{BadSetting}
+use Rattle.std.proofs.Common.{refl, arith}
+use Rattle.script.proofs.Fits.{fits}
 use Rattle.script.proofs.show_with.Goals as goal
 
--- what the flash takes is no longer than it
-fits : (n m : ℕ) → ◌≡◌ {A = Result (Unit {0}) Refusal} (Ok tt) (cond (leb n m) (Ok tt) (Err BadSetting)) → n ≤ m
-fits n m e = grind (arith, nat_tests)
+pub returns-clause-fits : goal.returns-clause-fits
+returns-clause-fits g c = let taken = fits _ _ c.in_ok-burn.ensures.value in omega (arith, taken, c.deref_mut.ensures.len, c.in_ok-flash_now.ensures.len)
 
-pub returns : goal.returns
-returns c = let taken = fits _ _ c.in_ok-burn.ensures.value in omega (arith, taken, c.deref_mut.ensures.len, c.in_ok-flash.ensures.len)
+pub returns-clause-printed : goal.returns-clause-printed
+returns-clause-printed g c = (_, _, record { shown = _; shows = refl; left = _; met = c.in_ok-print_panel.ensures; leaves = refl })
