@@ -1,5 +1,5 @@
 -- While one flat runs, its neighbour's RAM and code are shut.
-use Rattle.std.proofs.Common.{◌≡◌, ℕ, ◌/◌, ◌^◌, ◌<◌, Bool, true, false, eqb, List, [], ◌∷◌, length, drop, replicate, Some, refl, ap, ◌∙◌, inl, inr, arith, eq-eqb, ne_eqb, eqb-true}
+use Rattle.std.proofs.Common.{◌≡◌, ℕ, ◌/◌, ◌^◌, ◌<◌, Bool, true, false, eqb, List, [], ◌∷◌, ◌++◌, length, drop, replicate, Some, refl, ap, ◌∙◌, inl, inr, arith, eq-eqb, ne_eqb, eqb-true}
 use Rattle.std.proofs.Math.Bool.{and-true}
 use native.Mathlib.Nat.{zero-div}
 use Rattle.bus.specs.declared.access.Right.{Right}
@@ -9,25 +9,26 @@ use Rattle.parts.specs.Region.{off_region, eighth, is_privileged, region_covers,
 use Rattle.parts.specs.RegionCheck.{covered_by, deciding, passes_by, passes}
 use Rattle.parts.specs.declared.region.Region.{Region}
 use Rattle.parts.specs.declared.region.Slot.{Slot}
+use Rattle.parts.specs.declared.region.Slot.TheVariants.{Off}
 use Rattle.parts.specs.declared.region.Rights.TheVariants.{Privileged}
 use Rattle.parts.proofs.Deciders.{greatest_hit, greatest_miss}
 use Rattle.memory.specs.Flats.{neighbour, handed_to, Spare, Shut}
 use Rattle.memory.specs.declared.flats.Flat.{Flat}
 use Rattle.memory.specs.declared.flats.Flat.TheVariants.{One, Two}
 
--- all regions, where a flat runs and the last two are off
-abbrev eight : Flat → List Slot
-eight = handed_to (replicate 8 off_region)
+-- all regions, where a flat runs and the last two are off, with what numbers they keep
+abbrev eight : Region → Region → Flat → List Slot
+eight m n = handed_to (replicate 6 off_region ++ Off m ∷ Off n ∷ [])
 
-anew : (flat : Flat) (regions : List Slot) → Spare regions → handed_to regions flat ≡ eight flat
-anew One (a ∷ b ∷ c ∷ d ∷ e ∷ f ∷ rest) spare = ap (λ end. handed_to (a ∷ b ∷ c ∷ d ∷ e ∷ f ∷ end) One) spare
-anew Two (a ∷ b ∷ c ∷ d ∷ e ∷ f ∷ rest) spare = ap (λ end. handed_to (a ∷ b ∷ c ∷ d ∷ e ∷ f ∷ end) Two) spare
-anew flat [] spare = absurd (omega (arith, ap length spare))
-anew flat (a ∷ []) spare = absurd (omega (arith, ap length spare))
-anew flat (a ∷ b ∷ []) spare = absurd (omega (arith, ap length spare))
-anew flat (a ∷ b ∷ c ∷ []) spare = absurd (omega (arith, ap length spare))
-anew flat (a ∷ b ∷ c ∷ d ∷ []) spare = absurd (omega (arith, ap length spare))
-anew flat (a ∷ b ∷ c ∷ d ∷ e ∷ []) spare = absurd (omega (arith, ap length spare))
+anew : (flat : Flat) (regions : List Slot) (m n : Region) → drop 6 regions ≡ Off m ∷ Off n ∷ [] → handed_to regions flat ≡ eight m n flat
+anew One (a ∷ b ∷ c ∷ d ∷ e ∷ f ∷ rest) m n off = ap (λ end. handed_to (a ∷ b ∷ c ∷ d ∷ e ∷ f ∷ end) One) off
+anew Two (a ∷ b ∷ c ∷ d ∷ e ∷ f ∷ rest) m n off = ap (λ end. handed_to (a ∷ b ∷ c ∷ d ∷ e ∷ f ∷ end) Two) off
+anew flat [] m n off = absurd (omega (arith, ap length off))
+anew flat (a ∷ []) m n off = absurd (omega (arith, ap length off))
+anew flat (a ∷ b ∷ []) m n off = absurd (omega (arith, ap length off))
+anew flat (a ∷ b ∷ c ∷ []) m n off = absurd (omega (arith, ap length off))
+anew flat (a ∷ b ∷ c ∷ d ∷ []) m n off = absurd (omega (arith, ap length off))
+anew flat (a ∷ b ∷ c ∷ d ∷ e ∷ []) m n off = absurd (omega (arith, ap length off))
 
 -- a region of 1024 bytes for the supervisor only
 abbrev kilobyte : ℕ → Bool → Region
@@ -52,52 +53,61 @@ miss base x other = kilobyte_covers base x ∙ ne_eqb _ _ other
 panel_miss : (marks x : ℕ) → x / 1024 < 1048576 → region_covers (record { base = 0x4000_0000; exponent = 8; rights = Privileged; no_fetch = true; sub_marks = marks }) x ≡ false
 panel_miss marks x low = rw (ne_eqb (x / 256) 4194304 (λ e. omega arith))
 
--- which region decides in the neighbour's RAM and code
-ram_of_two : (x : ℕ) → x / 1024 ≡ 524290 → deciding (eight One) x ≡ Some 4
-ram_of_two x there =
-    let test : ℕ → Bool = covered_by (eight One) x in
-    greatest_miss test 8 (omega arith) refl ∙ greatest_miss test 7 (omega arith) refl
-    ∙ greatest_miss test 6 (omega arith) (panel_miss 0xfd x (omega arith))
-    ∙ greatest_hit test 5 (omega arith) (hit 0x2000_0800 x there)
+module _ (m n : Region) where
+  -- which region decides in the neighbour's RAM and code
+  ram_of_two : (x : ℕ) → x / 1024 ≡ 524290 → deciding (eight m n One) x ≡ Some 4
+  ram_of_two x there =
+      let test : ℕ → Bool = covered_by (eight m n One) x in
+      greatest_miss test 8 (omega arith) refl ∙ greatest_miss test 7 (omega arith) refl
+      ∙ greatest_miss test 6 (omega arith) (panel_miss 0xfd x (omega arith))
+      ∙ greatest_hit test 5 (omega arith) (hit 0x2000_0800 x there)
 
-code_of_two : (x : ℕ) → x / 1024 ≡ 2 → deciding (eight One) x ≡ Some 3
-code_of_two x there =
-    let test : ℕ → Bool = covered_by (eight One) x in
-    greatest_miss test 8 (omega arith) refl ∙ greatest_miss test 7 (omega arith) refl
-    ∙ greatest_miss test 6 (omega arith) (panel_miss 0xfd x (omega arith))
-    ∙ greatest_miss test 5 (omega arith) (miss 0x2000_0800 x (λ e. omega arith))
-    ∙ greatest_hit test 4 (omega arith) (hit 0x800 x there)
+  code_of_two : (x : ℕ) → x / 1024 ≡ 2 → deciding (eight m n One) x ≡ Some 3
+  code_of_two x there =
+      let test : ℕ → Bool = covered_by (eight m n One) x in
+      greatest_miss test 8 (omega arith) refl ∙ greatest_miss test 7 (omega arith) refl
+      ∙ greatest_miss test 6 (omega arith) (panel_miss 0xfd x (omega arith))
+      ∙ greatest_miss test 5 (omega arith) (miss 0x2000_0800 x (λ e. omega arith))
+      ∙ greatest_hit test 4 (omega arith) (hit 0x800 x there)
 
-ram_of_one : (x : ℕ) → x / 1024 ≡ 524289 → deciding (eight Two) x ≡ Some 1
-ram_of_one x there =
-    let test : ℕ → Bool = covered_by (eight Two) x in
-    greatest_miss test 8 (omega arith) refl ∙ greatest_miss test 7 (omega arith) refl
-    ∙ greatest_miss test 6 (omega arith) (panel_miss 0xfd x (omega arith))
-    ∙ greatest_miss test 5 (omega arith) (miss 0x2000_0800 x (λ e. omega arith))
-    ∙ greatest_miss test 4 (omega arith) (miss 0x800 x (λ e. omega arith))
-    ∙ greatest_miss test 3 (omega arith) (panel_miss 0xfe x (omega arith))
-    ∙ greatest_hit test 2 (omega arith) (hit 0x2000_0400 x there)
+  ram_of_one : (x : ℕ) → x / 1024 ≡ 524289 → deciding (eight m n Two) x ≡ Some 1
+  ram_of_one x there =
+      let test : ℕ → Bool = covered_by (eight m n Two) x in
+      greatest_miss test 8 (omega arith) refl ∙ greatest_miss test 7 (omega arith) refl
+      ∙ greatest_miss test 6 (omega arith) (panel_miss 0xfd x (omega arith))
+      ∙ greatest_miss test 5 (omega arith) (miss 0x2000_0800 x (λ e. omega arith))
+      ∙ greatest_miss test 4 (omega arith) (miss 0x800 x (λ e. omega arith))
+      ∙ greatest_miss test 3 (omega arith) (panel_miss 0xfe x (omega arith))
+      ∙ greatest_hit test 2 (omega arith) (hit 0x2000_0400 x there)
 
-code_of_one : (x : ℕ) → x / 1024 ≡ 1 → deciding (eight Two) x ≡ Some 0
-code_of_one x there =
-    let test : ℕ → Bool = covered_by (eight Two) x in
-    greatest_miss test 8 (omega arith) refl ∙ greatest_miss test 7 (omega arith) refl
-    ∙ greatest_miss test 6 (omega arith) (panel_miss 0xfd x (omega arith))
-    ∙ greatest_miss test 5 (omega arith) (miss 0x2000_0800 x (λ e. omega arith))
-    ∙ greatest_miss test 4 (omega arith) (miss 0x800 x (λ e. omega arith))
-    ∙ greatest_miss test 3 (omega arith) (panel_miss 0xfe x (omega arith))
-    ∙ greatest_miss test 2 (omega arith) (miss 0x2000_0400 x (λ e. omega arith))
-    ∙ greatest_hit test 1 (omega arith) (hit 0x400 x there)
+  code_of_one : (x : ℕ) → x / 1024 ≡ 1 → deciding (eight m n Two) x ≡ Some 0
+  code_of_one x there =
+      let test : ℕ → Bool = covered_by (eight m n Two) x in
+      greatest_miss test 8 (omega arith) refl ∙ greatest_miss test 7 (omega arith) refl
+      ∙ greatest_miss test 6 (omega arith) (panel_miss 0xfd x (omega arith))
+      ∙ greatest_miss test 5 (omega arith) (miss 0x2000_0800 x (λ e. omega arith))
+      ∙ greatest_miss test 4 (omega arith) (miss 0x800 x (λ e. omega arith))
+      ∙ greatest_miss test 3 (omega arith) (panel_miss 0xfe x (omega arith))
+      ∙ greatest_miss test 2 (omega arith) (miss 0x2000_0400 x (λ e. omega arith))
+      ∙ greatest_hit test 1 (omega arith) (hit 0x400 x there)
 
-shut : (flat : Flat) → Shut (neighbour flat) (eight flat)
-shut One background a user (inl there) = ap (λ o. passes_by o (eight One) background a) (ram_of_two a.address (eqb-true _ _ there)) ∙ denied a.usage a.right 0x2000_0800 true user
-shut One background a user (inr there) = ap (λ o. passes_by o (eight One) background a) (code_of_two a.address (eqb-true _ _ there)) ∙ denied a.usage a.right 0x800 false user
-shut Two background a user (inl there) = ap (λ o. passes_by o (eight Two) background a) (ram_of_one a.address (eqb-true _ _ there)) ∙ denied a.usage a.right 0x2000_0400 true user
-shut Two background a user (inr there) = ap (λ o. passes_by o (eight Two) background a) (code_of_one a.address (eqb-true _ _ there)) ∙ denied a.usage a.right 0x400 false user
+  shut : (flat : Flat) → Shut (neighbour flat) (eight m n flat)
+  shut One background a user (inl there) = ap (λ o. passes_by o (eight m n One) background a) (ram_of_two a.address (eqb-true _ _ there)) ∙ denied a.usage a.right 0x2000_0800 true user
+  shut One background a user (inr there) = ap (λ o. passes_by o (eight m n One) background a) (code_of_two a.address (eqb-true _ _ there)) ∙ denied a.usage a.right 0x800 false user
+  shut Two background a user (inl there) = ap (λ o. passes_by o (eight m n Two) background a) (ram_of_one a.address (eqb-true _ _ there)) ∙ denied a.usage a.right 0x2000_0400 true user
+  shut Two background a user (inr there) = ap (λ o. passes_by o (eight m n Two) background a) (code_of_one a.address (eqb-true _ _ there)) ∙ denied a.usage a.right 0x400 false user
 
+-- the regions that a flat runs with leave the last two as they were; while these are off, the neighbour is shut
+pub still_off : (flat : Flat) (regions : List Slot) (m n : Region) → drop 6 regions ≡ Off m ∷ Off n ∷ [] → drop 6 (handed_to regions flat) ≡ Off m ∷ Off n ∷ []
+still_off One regions m n off = ap (drop 6) (anew One regions m n off)
+still_off Two regions m n off = ap (drop 6) (anew Two regions m n off)
+
+pub off_shut : (flat : Flat) (regions : List Slot) (m n : Region) → drop 6 regions ≡ Off m ∷ Off n ∷ [] → Shut (neighbour flat) (handed_to regions flat)
+off_shut flat regions m n off background a user there = ap (λ all. passes all background a) (anew flat regions m n off) ∙ shut m n flat background a user there
+
+-- and so where they were never set
 pub still_spare : (flat : Flat) (regions : List Slot) → Spare regions → Spare (handed_to regions flat)
-still_spare One regions spare = ap (drop 6) (anew One regions spare)
-still_spare Two regions spare = ap (drop 6) (anew Two regions spare)
+still_spare flat regions spare = still_off flat regions _ _ spare
 
 pub neighbour_shut : (flat : Flat) (regions : List Slot) → Spare regions → Shut (neighbour flat) (handed_to regions flat)
-neighbour_shut flat regions spare background a user there = ap (λ all. passes all background a) (anew flat regions spare) ∙ shut flat background a user there
+neighbour_shut flat regions spare = off_shut flat regions _ _ spare

@@ -81,7 +81,7 @@ both_wait regions = flat_regions (flat_regions regions One Waits) Two Waits
 abbrev pub handed_to : List Slot → Flat → List Slot
 handed_to regions flat = flat_regions (flat_regions regions (neighbour flat) Waits) flat Runs
 
--- the last two of the eight regions are off
+-- the last two of the eight regions are off, and were never set
 abbrev pub Spare : List Slot → Type 0
 Spare regions = drop 6 regions ≡ off_region ∷ off_region ∷ []
 
