@@ -5,7 +5,7 @@ ghost use Rattle.std.specs.Prelude.{◌≡◌, IfOk};
 ghost use Rattle.bus.specs.Made.{Makes};
 ghost use Rattle.arch.specs.Step.{answer_to};
 ghost use Rattle.cpu.specs.Performed.{machine, machine_on};
-ghost use Rattle.memory.specs.Flats.{neighbour, Spare, Shut};
+ghost use Rattle.memory.specs.Flats.{neighbour, handed_to, Spare, Shut};
 ghost use Rattle.memory.specs.Prepared.{hub_world, prepared_world};
 ghost use Rattle.machine.specs.Turn.{CameTo};
 
@@ -15,6 +15,9 @@ use cpu::{Core, Failure};
 use memory::{Flat, Trouble};
 use parts::RegionCheck;
 use std::io;
+
+#[cfg(test)]
+mod tests;
 
 // What a turn came to: the answers to its calls, or why the core could not be reset and no call was made.
 pub type Played = Result<Vec<Response>, Fault>;
@@ -33,6 +36,7 @@ pub fn play_turn<B: Bus>(
     trace: bool,
 ) -> Result<Played, Trouble>
     ensures came { CameTo result calls.now (machine core.old.registers (prepared_world hub.old.table.regions hub.old.background (B.Bus.bytes hub.old.below) (B.Bus.verdict hub.old.below) flat)) (machine core.new.registers (hub_world hub.new.table.regions hub.new.background (B.Bus.bytes hub.new.below) (B.Bus.verdict hub.new.below))) }
+    ensures regions { hub.new.table.regions ≡ handed_to hub.old.table.regions flat }
     ensures shut { Spare hub.old.table.regions → Shut (neighbour flat) hub.new.table.regions × Spare hub.new.table.regions }
 {
     memory::prepare(hub, flat)?;

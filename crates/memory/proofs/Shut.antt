@@ -12,7 +12,7 @@ use Rattle.parts.specs.declared.region.Slot.{Slot}
 use Rattle.parts.specs.declared.region.Slot.TheVariants.{Off}
 use Rattle.parts.specs.declared.region.Rights.TheVariants.{Privileged}
 use Rattle.parts.proofs.Deciders.{greatest_hit, greatest_miss}
-use Rattle.memory.specs.Flats.{neighbour, handed_to, Spare, Shut}
+use Rattle.memory.specs.Flats.{neighbour, both_wait, handed_to, Spare, Shut}
 use Rattle.memory.specs.declared.flats.Flat.{Flat}
 use Rattle.memory.specs.declared.flats.Flat.TheVariants.{One, Two}
 
@@ -20,15 +20,19 @@ use Rattle.memory.specs.declared.flats.Flat.TheVariants.{One, Two}
 abbrev eight : Region → Region → Flat → List Slot
 eight m n = handed_to (replicate 6 off_region ++ Off m ∷ Off n ∷ [])
 
+-- six regions come before the last two
+six_before : (regions : List Slot) (m n : Region) → drop 6 regions ≡ Off m ∷ Off n ∷ [] → (a b c d e f : Slot) × (regions ≡ a ∷ b ∷ c ∷ d ∷ e ∷ f ∷ Off m ∷ Off n ∷ [])
+six_before (a ∷ b ∷ c ∷ d ∷ e ∷ f ∷ rest) m n off = (a, b, c, d, e, f, ap (λ end. a ∷ b ∷ c ∷ d ∷ e ∷ f ∷ end) off)
+six_before [] m n off = absurd (omega (arith, ap length off))
+six_before (a ∷ []) m n off = absurd (omega (arith, ap length off))
+six_before (a ∷ b ∷ []) m n off = absurd (omega (arith, ap length off))
+six_before (a ∷ b ∷ c ∷ []) m n off = absurd (omega (arith, ap length off))
+six_before (a ∷ b ∷ c ∷ d ∷ []) m n off = absurd (omega (arith, ap length off))
+six_before (a ∷ b ∷ c ∷ d ∷ e ∷ []) m n off = absurd (omega (arith, ap length off))
+
 anew : (flat : Flat) (regions : List Slot) (m n : Region) → drop 6 regions ≡ Off m ∷ Off n ∷ [] → handed_to regions flat ≡ eight m n flat
-anew One (a ∷ b ∷ c ∷ d ∷ e ∷ f ∷ rest) m n off = ap (λ end. handed_to (a ∷ b ∷ c ∷ d ∷ e ∷ f ∷ end) One) off
-anew Two (a ∷ b ∷ c ∷ d ∷ e ∷ f ∷ rest) m n off = ap (λ end. handed_to (a ∷ b ∷ c ∷ d ∷ e ∷ f ∷ end) Two) off
-anew flat [] m n off = absurd (omega (arith, ap length off))
-anew flat (a ∷ []) m n off = absurd (omega (arith, ap length off))
-anew flat (a ∷ b ∷ []) m n off = absurd (omega (arith, ap length off))
-anew flat (a ∷ b ∷ c ∷ []) m n off = absurd (omega (arith, ap length off))
-anew flat (a ∷ b ∷ c ∷ d ∷ []) m n off = absurd (omega (arith, ap length off))
-anew flat (a ∷ b ∷ c ∷ d ∷ e ∷ []) m n off = absurd (omega (arith, ap length off))
+anew One regions m n off = let (a, b, c, d, e, f, all) = six_before regions m n off in ap (λ regions. handed_to regions One) all
+anew Two regions m n off = let (a, b, c, d, e, f, all) = six_before regions m n off in ap (λ regions. handed_to regions Two) all
 
 -- a region of 1024 bytes for the supervisor only
 abbrev kilobyte : ℕ → Bool → Region
@@ -97,10 +101,13 @@ module _ (m n : Region) where
   shut Two background a user (inl there) = ap (λ o. passes_by o (eight m n Two) background a) (ram_of_one a.address (eqb-true _ _ there)) ∙ denied a.usage a.right 0x2000_0400 true user
   shut Two background a user (inr there) = ap (λ o. passes_by o (eight m n Two) background a) (code_of_one a.address (eqb-true _ _ there)) ∙ denied a.usage a.right 0x400 false user
 
--- the regions that a flat runs with leave the last two as they were; while these are off, the neighbour is shut
+-- the regions that a flat runs with, and those with which both wait, leave the last two off; while these are off, the neighbour is shut
 pub still_off : (flat : Flat) (regions : List Slot) (m n : Region) → drop 6 regions ≡ Off m ∷ Off n ∷ [] → drop 6 (handed_to regions flat) ≡ Off m ∷ Off n ∷ []
 still_off One regions m n off = ap (drop 6) (anew One regions m n off)
 still_off Two regions m n off = ap (drop 6) (anew Two regions m n off)
+
+pub still_off_waiting : (regions : List Slot) (m n : Region) → drop 6 regions ≡ Off m ∷ Off n ∷ [] → drop 6 (both_wait regions) ≡ Off m ∷ Off n ∷ []
+still_off_waiting regions m n off = let (a, b, c, d, e, f, all) = six_before regions m n off in ap (λ regions. drop 6 (both_wait regions)) all
 
 pub off_shut : (flat : Flat) (regions : List Slot) (m n : Region) → drop 6 regions ≡ Off m ∷ Off n ∷ [] → Shut (neighbour flat) (handed_to regions flat)
 off_shut flat regions m n off background a user there = ap (λ all. passes all background a) (anew flat regions m n off) ∙ shut m n flat background a user there
